@@ -1,0 +1,8 @@
+-- Trees: their layers.
+use Rattle.std.specs.Prelude.{ℕ, List}
+use Rattle.gft_core.specs.declared.tree.Tree.{Tree}
+use Rattle.gft_core.specs.declared.tree.Tree.TheOpen.{Tree-F}
+
+-- one layer of a tree
+abbrev pub Layer : Type 0
+Layer = Tree-F Tree
