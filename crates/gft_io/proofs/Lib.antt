@@ -1,1 +1,5 @@
+pub mod AnswerLemmas
+pub mod ChunkLemmas
+pub mod LineLemmas
+pub mod PlaceLemmas
 pub mod ToldLemmas

@@ -40,7 +40,8 @@ Told-part bytes front rest whole more = Told-join (Appends front) Same (AppendsP
 
 -- one more piece is written
 pub Told-more : (bytes front rest : List ℕ) (n : ℕ) → bytes ≡ front ++ rest → (o m t : Option (List ℕ)) → Told (Appends front) o m → Told (Appends (take n rest)) m t → (more : List ℕ) × (bytes ≡ more ++ drop n rest) × Told (Appends more) o t
-Told-more bytes front rest n whole o m t h k =
-    (front ++ take n rest,
-      whole ∙ ap (λ r. front ++ r) (sym (take-append-drop n rest)) ∙ sym (append_assoc front (take n rest) (drop n rest)),
-      Told-join (Appends front) (Appends (take n rest)) (Appends (front ++ take n rest)) (λ x y z p q. q ∙ ap (λ v. v ++ take n rest) p ∙ append_assoc x front (take n rest)) o m t h k)
+Told-more bytes front rest n whole o m t h k = (
+  front ++ take n rest,
+  whole ∙ ap (λ r. front ++ r) (sym (take-append-drop n rest)) ∙ sym (append_assoc front (take n rest) (drop n rest)),
+  Told-join (Appends front) (Appends (take n rest)) (Appends (front ++ take n rest)) (λ x y z p q. q ∙ ap (λ v. v ++ take n rest) p ∙ append_assoc x front (take n rest)) o m t h k,
+)

@@ -1,2 +1,6 @@
+pub mod Lines
 pub mod Outside
+pub mod Place
+pub mod Sound
+pub mod Steps
 pub mod Stores

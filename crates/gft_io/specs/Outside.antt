@@ -27,9 +27,9 @@ Told R (Some old) (Some new) = R old new
 abbrev pub Same : {A : Type 0} → A → A → Type 0
 Same old new = new ≡ old
 
--- the first n bytes of the buffer were the first of those left, and none are given only where none are left
-abbrev pub Gives : List ℕ → ℕ → List ℕ → List ℕ → Type 0
-Gives buffer n old new = (old ≡ take n buffer ++ new) × (n ≡ 0 → old ≡ [])
+-- these bytes were the first of those left, and none are given only where none were left
+abbrev pub Gives : List ℕ → List ℕ → List ℕ → Type 0
+Gives bytes old new = (old ≡ bytes ++ new) × (length bytes ≡ 0 → old ≡ [])
 
 -- these bytes were added at the end
 abbrev pub Appends : List ℕ → List ℕ → List ℕ → Type 0

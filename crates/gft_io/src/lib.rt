@@ -1,10 +1,13 @@
 //! What the program reads from and writes to, and the lines of what it reads.
 #![tactic(auto)]
 
+mod chunk;
+mod lines;
 mod sink;
 mod source;
 mod store;
 
+pub use lines::{LineErr, Lines};
 pub use sink::{Sink, write_all};
 pub use source::{Failed, Source};
 pub use store::{LoadErr, SaveErr, Store};

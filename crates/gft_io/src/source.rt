@@ -1,5 +1,5 @@
 //! What bytes are read from.
-ghost use Rattle.std.specs.Prelude.{◌≡◌, ◌<◌, ◌≤◌, ℕ, List, Option, length, IfOk, OnErr, MatchResult};
+ghost use Rattle.std.specs.Prelude.{◌≡◌, ◌<◌, ◌≤◌, ℕ, List, Option, length, take, IfOk, OnErr, MatchResult};
 ghost use Rattle.gft_io.specs.Outside.{raised, Rose, Told, Same, Gives};
 
 /// A device failed in this call; its number of faults has risen.
@@ -22,7 +22,7 @@ pub trait Source {
     fn read(&mut self, buffer: &mut [u8]) -> Result<usize, Failed>
         requires { 0 < length buffer.old }
         ensures bound { IfOk result (λ n. n ≤ length buffer.new) }
-        ensures gives { IfOk result (λ n. Told (Gives buffer.new n) (left self.old) (left self.new)) }
+        ensures gives { IfOk result (λ n. Told (Gives (take n buffer.new)) (left self.old) (left self.new)) }
         ensures keeps { OnErr result (Told Same (left self.old) (left self.new)) }
         ensures takes { MatchResult result (λ n. taken self.new ≡ raised (taken self.old) n)
             (λ _. taken self.new ≡ taken self.old) }
