@@ -1,6 +1,6 @@
 -- What a call answers, from what its parts did.
 use Rattle.std.proofs.Common.{◌≡◌, ◌≢◌, ℕ, ◌+◌, ◌<◌, ◌≤◌, List, [], ◌∷◌, ◌++◌, length, take, drop, refl, sym, ap, ◌∙◌, subst, arith, append_assoc, append-nil, length-append, Option, None, Some, Result, Ok, Err}
-use Rattle.std.proofs.lemmas.List.{length-take-le}
+use Rattle.std.proofs.lemmas.List.{length-take-le, nil_from_length}
 use Rattle.std.specs.declared.vec.Vec.{Vec}
 use Rattle.std.specs.declared.alloc.Global.{Global}
 use Rattle.gft_io.specs.declared.lines.LineErr.{LineErr}
@@ -10,11 +10,6 @@ use Rattle.gft_io.specs.Place.{Place, count, Pends, Passes, Answers}
 use Rattle.gft_io.specs.Steps.{IsLineEnd, past, EndsLine, EndsInput, IsAtEnd}
 use Rattle.gft_io.proofs.LineLemmas.{first_line-ended, after_line-ended, line_size-ended, lines_of-ended, first_line-unended, after_line-unended, line_size-unended, lines_of-unended}
 use Rattle.gft_io.proofs.PlaceLemmas.{none-append, none-nil}
-
--- the list is empty that has no elements
-empty_list : (xs : List ℕ) → length xs ≡ 0 → xs ≡ []
-empty_list [] e = refl
-empty_list (x ∷ xs) e = absurd (omega arith)
 
 some_list : (xs : List ℕ) → 0 < length xs → xs ≢ []
 some_list xs h e = absurd (omega (arith, ap length e))
@@ -75,7 +70,7 @@ newline_cut o m n left bytes end same room b e new p =
     let rest : Pends n (Some left) (back ++ left) =
     subst (λ (v : List ℕ). Pends n (Some left) (v ++ left)) (ap (λ q. q.ahead) new) (only_ahead n left (ap (λ q. q.skipped) new) (ap (λ q. q.begun) new)) in
     let t = passed_line o n bytes line (back ++ left) left (none-append h.0 (m.begun ++ front) h.1 (none-append m.begun front b e.unended)) whole (omega arith) (omega (arith, e.bound)) rest in
-    (line, n_line, t.0, t.1, λ z. ap (λ d. d ++ (m.begun ++ front)) (empty_list h.0 (h.2 ∙ z)))
+    (line, n_line, t.0, t.1, λ z. ap (λ d. d ++ (m.begun ++ front)) (nil_from_length h.0 (h.2 ∙ z)))
 
 -- the answers where a newline was read
 pub ended : (o m n : Place) (l : Option (List ℕ)) (bytes : List ℕ) (end : ℕ) (r : Result (Option (Vec ℕ Global)) LineErr) → m.passed ≡ o.passed → count m ≤ input_limit → HasNoNewline m.begun → IsLineEnd m.ahead end → EndsLine m n end r → Pends m l bytes → Answers o n l bytes r
@@ -107,7 +102,7 @@ last_cut o m n left bytes same room b a z new some p =
     let rest : Pends n (Some left) [] =
     subst (λ (v : List ℕ). Pends n (Some left) v) (ap (λ v. v ++ left) n_ahead ∙ z) (only_ahead n left (ap (λ q. q.skipped) new) (ap (λ q. q.begun) new)) in
     let t = passed_last o n bytes left none (omega arith) (omega arith) (omega arith) rest in
-    (n_bytes, t.0, t.1, λ y. whole ∙ ap (λ d. d ++ m.begun) (empty_list p.1.0 (p.1.2 ∙ y)))
+    (n_bytes, t.0, t.1, λ y. whole ∙ ap (λ d. d ++ m.begun) (nil_from_length p.1.0 (p.1.2 ∙ y)))
 
 -- the answers where the input ended
 pub finished : (o m n : Place) (l : Option (List ℕ)) (bytes : List ℕ) (r : Result (Option (Vec ℕ Global)) LineErr) → m.passed ≡ o.passed → count m ≤ input_limit → HasNoNewline m.begun → m.ahead ≡ [] → IsAtEnd l → EndsInput m n r → Pends m l bytes → Answers o n l bytes r
@@ -116,7 +111,7 @@ finished o m n (Some left) bytes (Ok (Some given)) same room b a z ends p =
     let cut = last_cut o m n left bytes same room b a z ends.4 (omega (arith, ends.2)) p in
     (cut.1, ends.1 ∙ sym (cut.3 ends.0) ∙ sym cut.2, omega (arith, ap length ends.1, ends.3))
 finished o m n (Some left) bytes (Ok None) same room b a z ends p =
-    let nothing : bytes ≡ [] = input_cut m left bytes a z p ∙ ap (λ v. p.1.0 ++ v) ends.1 ∙ append-nil p.1.0 ∙ empty_list p.1.0 (p.1.2 ∙ ends.0) in
+    let nothing : bytes ≡ [] = input_cut m left bytes a z p ∙ ap (λ v. p.1.0 ++ v) ends.1 ∙ append-nil p.1.0 ∙ nil_from_length p.1.0 (p.1.2 ∙ ends.0) in
     (nothing, subst (λ (q : Place). Pends q (Some left) []) (sym ends.2) (subst (λ (v : List ℕ). Pends m (Some left) v) nothing p))
 finished o m n (Some left) bytes (Err LineTooLong) same room b a z ends p =
     let cut = last_cut o m n left bytes same room b a z ends.1 (omega (arith, ends.0)) p in

@@ -2,4 +2,5 @@ pub mod AnswerLemmas
 pub mod ChunkLemmas
 pub mod LineLemmas
 pub mod PlaceLemmas
+pub mod StoreLemmas
 pub mod ToldLemmas

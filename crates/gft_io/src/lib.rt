@@ -3,11 +3,13 @@
 
 mod chunk;
 mod lines;
+mod memory;
 mod sink;
 mod source;
 mod store;
 
 pub use lines::{LineErr, Lines};
+pub use memory::{MemSink, MemSource, MemStore};
 pub use sink::{Sink, write_all};
 pub use source::{Failed, Source};
 pub use store::{LoadErr, SaveErr, Store};

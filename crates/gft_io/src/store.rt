@@ -3,7 +3,8 @@ ghost use Rattle.std.specs.Prelude.{◌≡◌, ◌<◌, ◌≤◌, ℕ, List, Op
 ghost use Rattle.gft_io.specs.Outside.{Rose, Told, Same, Files};
 ghost use Rattle.gft_io.specs.Stores.{Loads, Saves, KeepsOthers};
 
-use std::alloc::Global;
+use gft_core::NoMemory;
+use std::alloc::{AllocError, Global};
 
 /// Why a file was not loaded. `TooLong`: it has more bytes than the limit. `Failed`: the store's
 /// faults rose.
@@ -20,6 +21,50 @@ pub enum LoadErr {
 pub enum SaveErr {
     Failed,
     NoMemory,
+}
+
+impl From<NoMemory> for LoadErr {
+    ghost use Rattle.std.specs.Prelude.{◌≡◌};
+    ghost use Rattle.gft_io.specs.declared.store.LoadErr.TheVariants.{NoMemory};
+
+    ghost from_gives = { λ _ e. e ≡ NoMemory };
+
+    fn from(_error: NoMemory) -> LoadErr {
+        LoadErr::NoMemory
+    }
+}
+
+impl From<AllocError> for LoadErr {
+    ghost use Rattle.std.specs.Prelude.{◌≡◌};
+    ghost use Rattle.gft_io.specs.declared.store.LoadErr.TheVariants.{NoMemory};
+
+    ghost from_gives = { λ _ e. e ≡ NoMemory };
+
+    fn from(_error: AllocError) -> LoadErr {
+        LoadErr::NoMemory
+    }
+}
+
+impl From<NoMemory> for SaveErr {
+    ghost use Rattle.std.specs.Prelude.{◌≡◌};
+    ghost use Rattle.gft_io.specs.declared.store.SaveErr.TheVariants.{NoMemory};
+
+    ghost from_gives = { λ _ e. e ≡ NoMemory };
+
+    fn from(_error: NoMemory) -> SaveErr {
+        SaveErr::NoMemory
+    }
+}
+
+impl From<AllocError> for SaveErr {
+    ghost use Rattle.std.specs.Prelude.{◌≡◌};
+    ghost use Rattle.gft_io.specs.declared.store.SaveErr.TheVariants.{NoMemory};
+
+    ghost from_gives = { λ _ e. e ≡ NoMemory };
+
+    fn from(_error: AllocError) -> SaveErr {
+        SaveErr::NoMemory
+    }
 }
 
 /// Files by their names.
