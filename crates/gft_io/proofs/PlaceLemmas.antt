@@ -58,7 +58,7 @@ late place h over bytes more holds =
 raised-zero : (t : ℕ) → t ≡ raised t 0
 raised-zero t = omega arith
 
-raised-twice : (t a b : ℕ) → raised (raised t a) b ≡ raised t (a + b)
+pub raised-twice : (t a b : ℕ) → raised (raised t a) b ≡ raised t (a + b)
 raised-twice t a b = omega arith
 
 pub GoesOn-none : (o : Place) (l : Option (List ℕ)) (t f : ℕ) → GoesOn o o l l t t f f

@@ -1,3 +1,4 @@
+pub mod Host
 pub mod Lines
 pub mod Memory
 pub mod Outside

@@ -8,7 +8,7 @@ use std::alloc::Global;
 use std::marker::Model;
 
 /// The most bytes of one read.
-const CHUNK: usize = 8192;
+pub(crate) const CHUNK: usize = 8192;
 
 /// The bytes of the last read that are not consumed yet; contracts see their list.
 #[derive(Drop)]

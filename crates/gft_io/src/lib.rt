@@ -2,12 +2,14 @@
 #![tactic(auto)]
 
 mod chunk;
+mod host;
 mod lines;
 mod memory;
 mod sink;
 mod source;
 mod store;
 
+pub use host::{FileStore, ReadSource, WriteSink};
 pub use lines::{LineErr, Lines};
 pub use memory::{MemSink, MemSource, MemStore};
 pub use sink::{Sink, write_all};

@@ -94,7 +94,7 @@ impl Store for MemStore {
         ensures fails { IsErrOf result LoadErr.Failed
             ↔ Contains self.old.calls.failing self.new.calls.made }
         ensures calls { (self.new.calls ≡ after_call self.old.calls false)
-            ⊎ IsErrOf result LoadErr.Failed × (self.new.calls ≡ after_call self.old.calls true) }
+            ⊎ (IsErrOf result LoadErr.Failed × (self.new.calls ≡ after_call self.old.calls true)) }
         ensures unfailing { self.old.calls.failing ≡ []
             → self.new.calls.faults ≡ self.old.calls.faults }
     {
@@ -122,7 +122,7 @@ impl Store for MemStore {
         ensures fails { IsErrOf result SaveErr.Failed
             ↔ Contains self.old.calls.failing self.new.calls.made }
         ensures calls { (self.new.calls ≡ after_call self.old.calls false)
-            ⊎ IsErrOf result SaveErr.Failed × (self.new.calls ≡ after_call self.old.calls true) }
+            ⊎ (IsErrOf result SaveErr.Failed × (self.new.calls ≡ after_call self.old.calls true)) }
         ensures unfailing { self.old.calls.failing ≡ []
             → self.new.calls.faults ≡ self.old.calls.faults }
     {
