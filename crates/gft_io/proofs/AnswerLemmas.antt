@@ -1,12 +1,12 @@
 -- What a call answers, from what its parts did.
-use Rattle.std.proofs.Common.{◌≡◌, ◌≢◌, ℕ, ◌+◌, ◌<◌, ◌≤◌, List, [], ◌∷◌, ◌++◌, length, take, drop, refl, sym, ap, ◌∙◌, subst, arith, append_assoc, append-nil, length-append, Option, None, Some, Result, Ok, Err}
+use Rattle.std.proofs.Common.{◌≡◌, ◌≢◌, ℕ, ◌+◌, ◌<◌, ◌≤◌, List, [], ◌∷◌, ◌++◌, length, take, drop, refl, sym, ap, ◌∙◌, subst, arith, append_assoc, append-nil, length-append, length-drop, Option, None, Some, Result, Ok, Err}
 use Rattle.std.proofs.lemmas.List.{length-take-le, nil_from_length}
 use Rattle.std.specs.declared.vec.Vec.{Vec}
 use Rattle.std.specs.declared.alloc.Global.{Global}
 use Rattle.gft_io.specs.declared.lines.LineErr.{LineErr}
 use Rattle.gft_io.specs.declared.lines.LineErr.TheVariants.{ReadFault, InputLimit, LineTooLong, NoMemory}
 use Rattle.gft_io.specs.Lines.{input_limit, HasNoNewline, first_line, after_line, line_size, lines_of}
-use Rattle.gft_io.specs.Place.{Place, count, Pends, Passes, Answers}
+use Rattle.gft_io.specs.Place.{Place, count, kept, Pends, Passes, Answers, KeepsLittle}
 use Rattle.gft_io.specs.Steps.{IsLineEnd, past, EndsLine, EndsInput, IsAtEnd}
 use Rattle.gft_io.proofs.LineLemmas.{first_line-ended, after_line-ended, line_size-ended, lines_of-ended, first_line-unended, after_line-unended, line_size-unended, lines_of-unended}
 use Rattle.gft_io.proofs.PlaceLemmas.{none-append, none-nil}
@@ -119,3 +119,28 @@ finished o m n (Some left) bytes (Err LineTooLong) same room b a z ends p =
 finished o m n (Some left) bytes (Err InputLimit) same room b a z ends p = absurd ends
 finished o m n (Some left) bytes (Err ReadFault) same room b a z ends p = absurd ends
 finished o m n (Some left) bytes (Err NoMemory) same room b a z ends p = tt
+
+little_past : (m n : Place) (size : ℕ) → n ≡ past m size → KeepsLittle m → KeepsLittle n
+little_past m n size new h =
+    let a : length (kept n) ≡ length (drop size m.ahead) = ap (λ q. length (kept q)) new in
+    omega (arith, a, length-drop size m.ahead, length-append m.begun m.ahead)
+
+little_same : (m n : Place) → n ≡ m → KeepsLittle m → KeepsLittle n
+little_same m n new h = let P : Place → Type 0 = KeepsLittle in subst P (sym new) h
+
+-- no more is kept after a line than before it
+pub little_ended : (m n : Place) (end : ℕ) (r : Result (Option (Vec ℕ Global)) LineErr) → EndsLine m n end r → KeepsLittle m → KeepsLittle n
+little_ended m n end (Ok (Some given)) ends h = little_past m n (end + 1) ends.3 h
+little_ended m n end (Ok None) ends h = absurd ends
+little_ended m n end (Err LineTooLong) ends h = little_past m n (end + 1) ends.1 h
+little_ended m n end (Err InputLimit) ends h = absurd ends
+little_ended m n end (Err ReadFault) ends h = absurd ends
+little_ended m n end (Err NoMemory) ends h = little_same m n ends h
+
+pub little_finished : (m n : Place) (r : Result (Option (Vec ℕ Global)) LineErr) → EndsInput m n r → KeepsLittle m → KeepsLittle n
+little_finished m n (Ok (Some given)) ends h = little_past m n 0 ends.4 h
+little_finished m n (Ok None) ends h = little_same m n ends.2 h
+little_finished m n (Err LineTooLong) ends h = little_past m n 0 ends.1 h
+little_finished m n (Err InputLimit) ends h = absurd ends
+little_finished m n (Err ReadFault) ends h = absurd ends
+little_finished m n (Err NoMemory) ends h = absurd ends

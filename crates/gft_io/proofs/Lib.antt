@@ -1,4 +1,5 @@
 pub mod AnswerLemmas
+pub mod CallerLemmas
 pub mod ChunkLemmas
 pub mod LineLemmas
 pub mod PlaceLemmas

@@ -21,6 +21,10 @@ start = record { passed = 0; skipped = 0; begun = []; ahead = [] }
 abbrev pub kept : Place → List ℕ
 kept place = place.begun ++ place.ahead
 
+-- no more is kept than a line and one read
+abbrev pub KeepsLittle : Place → Type 0
+KeepsLittle place = length (kept place) ≤ line_limit + 8192
+
 -- how many bytes were taken since the start
 abbrev pub count : Place → ℕ
 count place = place.passed + place.skipped + length place.begun + length place.ahead

@@ -43,7 +43,8 @@ impl Chunk {
 
     /// The bytes that are left.
     pub(crate) fn bytes(&self) -> &[u8]
-        ensures { result.now ≡ self.now }
+        ensures value { result.now ≡ self.now }
+        ensures bound { length self.now ≤ 8192 }
     {
         &self.buffer[self.start..self.end]
     }

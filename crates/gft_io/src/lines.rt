@@ -1,8 +1,8 @@
 //! The lines of a source, read piece by piece.
 ghost use Rattle.std.specs.Prelude.{◌≡◌, ◌≢◌, ◌↔◌, ℕ, ◌+◌, ◌-◌, ◌<◌, ◌≤◌, List, [], ◌∷◌, ◌++◌, length, take, drop, Option, is_some, IsErrOf, IfOk, IfSome, OnOk, OnErr, MatchOption, ◌⊎◌};
 ghost use Rattle.gft_io.specs.Outside.{raised, Rose, Told, Same, Gives};
-ghost use Rattle.gft_io.specs.Lines.{input_limit, IsLine, HasNoNewline};
-ghost use Rattle.gft_io.specs.Place.{start, kept, count, Pends, Answers, Advances, KeepsAll};
+ghost use Rattle.gft_io.specs.Lines.{input_limit, IsLine, HasNoNewline, line_limit};
+ghost use Rattle.gft_io.specs.Place.{start, kept, count, Pends, Answers, Advances, KeepsAll, KeepsLittle};
 ghost use Rattle.gft_io.specs.Steps.{IsLineEnd, with_ahead, without_line, EndsLine, EndsInput, GoesOn, IsAtEnd, IsLate};
 
 use crate::chunk::Chunk;
@@ -93,6 +93,7 @@ impl Lines {
         ensures passed { self.now.passed ≤ input_limit }
         ensures bound { result ≤ input_limit + 1 }
         ensures late { input_limit < result → IsLate self.now }
+        ensures little { KeepsLittle self.now }
     {
         self.passed + self.skipped + self.begun.len() as u64 + self.ahead.bytes().len() as u64
     }
@@ -109,6 +110,7 @@ impl Lines {
         requires line { HasNoNewline self.old.ahead }
         requires room { count self.old ≤ input_limit }
         ensures line { HasNoNewline self.old.begun }
+        ensures short { length self.new.begun ≤ line_limit }
         ensures ok { OnOk result ((self.new ≡ with_ahead self.old) ⊎ (self.new ≡ without_line self.old)) }
         ensures err { OnErr result (self.new ≡ self.old) }
     {
@@ -196,6 +198,7 @@ impl Lines {
         ensures limit { IsErrOf result LineErr.InputLimit ↔ (input_limit < count self.new) }
         ensures most { count self.new ≤ input_limit + 1 }
         ensures late { input_limit < count self.new → IsLate self.new }
+        ensures little { KeepsLittle self.new }
         ensures again { input_limit < count self.old
             → (self.new ≡ self.old) × (source.new ≡ source.old) }
         ensures failed { IsErrOf result LineErr.ReadFault
@@ -238,6 +241,7 @@ impl Lines {
         ensures line { IfOk result (λ found. IfSome found (λ line. IsLine line.items)) }
         ensures advances { Advances self.old self.new result }
         ensures bound { self.new.passed ≤ input_limit }
+        ensures little { KeepsLittle self.new }
         ensures limit { IsErrOf result LineErr.InputLimit ↔ (input_limit < count self.new) }
         ensures again { input_limit < count self.old
             → (self.new ≡ self.old) × (source.new ≡ source.old) }
