@@ -80,6 +80,15 @@ fn each_newline_ends_a_line_and_no_fault_loses_one(rt: HostRuntime) -> Result<()
     Ok(())
 }
 
+/// Bytes of lines of 1,023 bytes `x`, from this place on.
+fn write_lines(start: u64, slots: &mut [u8]) {
+    let mut at = start;
+    for slot in slots.iter_mut() {
+        *slot = if at % 1024 == 1023 { b'\n' } else { b'x' };
+        at = at.wrapping_add(1);
+    }
+}
+
 /// A source that holds no bytes: lines of 1,023 bytes `x`.
 #[derive(Drop)]
 struct Endless {
@@ -97,10 +106,8 @@ impl Source for Endless {
 
     fn read(&mut self, buffer: &mut [u8]) -> Result<usize, Failed> {
         let count = buffer.len().min(self.left.min(1 << 20) as usize);
-        for slot in buffer[..count].iter_mut() {
-            *slot = if self.at % 1024 == 1023 { b'\n' } else { b'x' };
-            self.at = self.at.wrapping_add(1);
-        }
+        write_lines(self.at, &mut buffer[..count]);
+        self.at = self.at.wrapping_add(count as u64);
         self.left -= count as u64;
         self.taken = self.taken.saturating_add(count as u64);
         Ok(count)
@@ -140,7 +147,8 @@ fn lines_that_end_within_the_limit_are_given(rt: HostRuntime) -> Result<(), Fail
         (67_108_865, 0, (65_536, limit, limit)),
         (67_108_864, 1, (65_537, None, None)),
         (67_108_865, 1, (65_536, limit, limit)),
-        (67_108_865, 1023, (65_537, limit, limit)),
+        // The last newline is the byte past the limit.
+        (67_108_865, 1023, (65_536, limit, limit)),
     ];
     for (left, start, want) in rows {
         let counted = count_lines(rt.alloc(), left, start)?;
