@@ -1,5 +1,5 @@
 -- What a loop over the lines of a source needs besides the contract of `next`.
-use Rattle.std.proofs.Common.{◌≡◌, ◌≢◌, ◌⊎◌, ℕ, ◌+◌, Bool, true, false, cond, eqb, List, [], ◌∷◌, ◌++◌, length, refl, sym, ap, ◌∙◌, arith, Some}
+use Rattle.std.proofs.Common.{◌≡◌, ◌≢◌, ℕ, ◌+◌, true, false, cond, eqb, List, [], ◌∷◌, length, refl, ap, arith, Some}
 use Rattle.gft_io.specs.Lines.{first_line, after_line, line_size, with_first, lines_of}
 use Rattle.gft_io.specs.Place.{start, Pends}
 use Rattle.gft_io.proofs.PlaceLemmas.{none-nil}

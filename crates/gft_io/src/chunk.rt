@@ -25,7 +25,8 @@ impl Model for Chunk {
 
     ghost view = { λ c. take (c.end - c.start) (drop c.start c.buffer.items) };
 
-    ghost invariant = { λ c. (c.start ≤ c.end) × (c.end ≤ vec_len c.buffer) × (vec_len c.buffer ≡ 8192) };
+    ghost invariant = { λ c.
+        (c.start ≤ c.end) × (c.end ≤ vec_len c.buffer) × (vec_len c.buffer ≡ 8192) };
 }
 
 impl Chunk {

@@ -18,9 +18,9 @@ const LINE_LIMIT: u64 = 65_536;
 /// The most bytes of a stream of lines.
 const INPUT_LIMIT: u64 = 67_108_864;
 
-/// Why there is no next line. `ReadFault`: the source failed; a next call goes on. `InputLimit`: the
-/// next line does not end within 67,108,864 bytes; each later call answers this too. `LineTooLong`: it
-/// has over 65,536 bytes, and is skipped. After `NoMemory` it is open what is kept.
+/// Why there is no next line. `ReadFault`: the source failed; a next call goes on. `InputLimit`:
+/// the next line does not end within 67,108,864 bytes; each later call answers this too.
+/// `LineTooLong`: it has over 65,536 bytes, and is skipped. After `NoMemory` it is open what is kept.
 #[derive(Clone, Copy, Debug, PartialEq, Eq)]
 pub enum LineErr {
     ReadFault,
@@ -68,7 +68,12 @@ impl Model for Lines {
 
     ghost Value = { Place };
 
-    ghost view = { λ a. record { passed = a.passed; skipped = a.skipped; begun = a.begun.items; ahead = a.ahead } };
+    ghost view = { λ a. record {
+      passed = a.passed;
+      skipped = a.skipped;
+      begun = a.begun.items;
+      ahead = a.ahead;
+    } };
 
     ghost invariant = { λ a. IsSound a.passed a.skipped a.begun.items (length a.ahead) };
 }
@@ -111,7 +116,8 @@ impl Lines {
         requires room { count self.old ≤ input_limit }
         ensures line { HasNoNewline self.old.begun }
         ensures short { length self.new.begun ≤ line_limit }
-        ensures ok { OnOk result ((self.new ≡ with_ahead self.old) ⊎ (self.new ≡ without_line self.old)) }
+        ensures ok { OnOk result
+            ((self.new ≡ with_ahead self.old) ⊎ (self.new ≡ without_line self.old)) }
         ensures err { OnErr result (self.new ≡ self.old) }
     {
         let added = self.ahead.bytes();

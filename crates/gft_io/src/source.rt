@@ -22,7 +22,8 @@ pub trait Source {
     fn read(&mut self, buffer: &mut [u8]) -> Result<usize, Failed>
         requires { 0 < length buffer.old }
         ensures bound { IfOk result (λ n. n ≤ length buffer.new) }
-        ensures gives { IfOk result (λ n. Told (Gives (take n buffer.new)) (left self.old) (left self.new)) }
+        ensures gives { IfOk result (λ n.
+            Told (Gives (take n buffer.new)) (left self.old) (left self.new)) }
         ensures keeps { OnErr result (Told Same (left self.old) (left self.new)) }
         ensures takes { MatchResult result (λ n. taken self.new ≡ raised (taken self.old) n)
             (λ _. taken self.new ≡ taken self.old) }

@@ -85,7 +85,8 @@ pub trait Store {
 
     /// Makes these bytes the content of the file of this name. Every other file keeps its content.
     fn save(&mut self, alloc: Global, name: &str, bytes: &[u8]) -> Result<(), SaveErr>
-        ensures saved { OnOk result (Told (Saves name.now bytes.now) (files self.old) (files self.new)) }
+        ensures saved { OnOk result
+            (Told (Saves name.now bytes.now) (files self.old) (files self.new)) }
         ensures others { IsErrOf result SaveErr.Failed
             → Told (KeepsOthers name.now) (files self.old) (files self.new) }
         ensures keeps { IsErrOf result SaveErr.NoMemory

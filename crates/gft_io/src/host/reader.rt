@@ -3,12 +3,10 @@ ghost use Rattle.std.specs.Prelude.{◌≡◌, ◌<◌, ◌≤◌, ℕ, List, Op
 ghost use Rattle.gft_io.specs.Outside.{raised, Rose};
 ghost use Rattle.gft_io.specs.Host.{faults_after};
 
+use super::RETRIES;
 use crate::source::{Failed, Source};
 use std::io::{self, ErrorKind, Read};
 use std::marker::Model;
-
-/// How many times a read or a write is tried again that a signal cut short.
-const RETRIES: usize = 64;
 
 /// A source over a reader, as standard input or a file.
 #[derive(Drop)]

@@ -3,13 +3,11 @@ ghost use Rattle.std.specs.Prelude.{◌≡◌, ◌<◌, ◌≤◌, ℕ, List, Op
 ghost use Rattle.gft_io.specs.Outside.{Rose};
 ghost use Rattle.gft_io.specs.Host.{faults_after};
 
+use super::RETRIES;
 use crate::sink::Sink;
 use crate::source::Failed;
 use std::io::{self, ErrorKind, Write};
 use std::marker::Model;
-
-/// How many times a write is tried again that a signal cut short.
-const RETRIES: usize = 64;
 
 /// A sink over a writer, as standard output or a file; contracts see how often it failed. It flushes
 /// after each write, so that what was written appears.

@@ -1,4 +1,4 @@
-use Rattle.std.proofs.Common.{rules, ◌≡◌}
+use Rattle.std.proofs.Common.{rules}
 use Rattle.gft_io.proofs.AnswerLemmas.{ended, finished, little_ended, little_finished}
 use Rattle.gft_io.proofs.lines.Lines.next.Goals as goal
 
