@@ -1,0 +1,31 @@
+use Rattle.std.proofs.Common.{◌≡◌, [], ◌∷◌, ◌++◌, ap, ◌∙◌, arith}
+use Rattle.gft_unify.specs.Instances.{inst}
+use Rattle.gft_unify.specs.Bindings.{solved, trees_of}
+use Rattle.gft_unify.specs.Building.{arguments_of}
+use Rattle.gft_unify.proofs.WorkLemmas.{empty}
+use Rattle.gft_unify.proofs.SearchLemmas.{trees_of-push}
+use Rattle.gft_unify.proofs.BuildLemmas.{nodes_smaller, nodes_more, nodes_all}
+use Rattle.gft_unify.proofs.resolve.nodes.Goals as goal
+
+popped : (c : goal.In_ok-push_all) → trees_of c.nodes.pending.items ≡ trees_of c.pop.new.self.items ++ c.in-Some.next.now ∷ []
+popped c = ap trees_of c.in-Some.ensures.items ∙ trees_of-push c.pop.new.self.items _
+
+pushed : (c : goal.In_ok-push_all) → trees_of c.push_all.new.pending.items ≡ trees_of c.pop.new.self.items ++ arguments_of c.walk-node.result.now
+pushed c = c.in_ok-push_all.ensures ∙ ap (λ xs. trees_of c.pop.new.self.items ++ xs) c.arguments_of.ensures
+
+pub nodes-smaller : goal.nodes-smaller
+nodes-smaller c =
+    let s = solved c.args.store.now in
+    nodes_smaller s _ _ _ _ _ (popped c) (c.walk-node.ensures.same s c.requires.respected) (pushed c)
+
+pub nodes-preserved : goal.nodes-preserved
+nodes-preserved c =
+    let s = solved c.args.store.now in
+    nodes_more s _ _ _ _ _ (popped c) (c.walk-node.ensures.same s c.requires.respected) (pushed c) _ _ _ (λ k e. c.requires.loose k (c.walk-node.ensures.end k e))
+    (ap trees_of c.in_ok-push-2.ensures.items ∙ trees_of-push c.nodes.found.items _) c.nodes.invariant
+
+pub returns : goal.returns
+returns c =
+    let none = c.in_default.ensures.cases in
+    let left = empty c.nodes.pending.items (omega (arith, none.0, c.nodes.pending.ok.0)) in
+    nodes_all (inst (solved c.args.store.now)) _ _ _ (ap trees_of left) c.nodes.invariant

@@ -1,0 +1,13 @@
+use Rattle.std.proofs.Common.{◌∷◌, []}
+use Rattle.gft_unify.specs.Instances.{inst, total, node_count}
+use Rattle.gft_unify.specs.Substitutions.{tree_at}
+use Rattle.gft_unify.specs.Bindings.{trees_of}
+use Rattle.gft_unify.specs.Building.{Completes}
+use Rattle.gft_unify.proofs.subst.Subst.nodes.Given as goal
+
+-- what builds the trees that are pending completes the nodes so far
+abbrev pub invariant-nodes : goal.invariant-nodes
+invariant-nodes l = Completes (inst (tree_at l.self)) (trees_of l.found.items) (trees_of l.pending.items) (inst (tree_at l.self) l.tree ∷ [])
+
+abbrev pub decreases-nodes : goal.decreases-nodes
+decreases-nodes l = total (λ t. node_count (inst (tree_at l.self) t)) (trees_of l.pending.items)

@@ -1,0 +1,11 @@
+pub mod Layers
+pub mod Instances
+pub mod Substitutions
+pub mod Parts
+pub mod Heads
+pub mod Bindings
+pub mod Comparison
+pub mod Work
+pub mod Refusals
+pub mod Building
+pub mod Resolution
