@@ -1,0 +1,3 @@
+pub mod Nonterminals
+pub mod Ranges
+pub mod Layers

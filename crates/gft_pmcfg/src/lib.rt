@@ -1,0 +1,17 @@
+//! Abstract and concrete syntax of a compiled grammar, its runs, and packed forests of runs.
+#![tactic(auto)]
+
+mod concrete;
+mod copied;
+mod forest;
+mod grammar;
+mod run;
+mod signature;
+#[cfg(test)]
+mod tests;
+
+pub use concrete::{Concrete, Def, Info, Prod, Ref};
+pub use forest::{Alt, Forest, Node};
+pub use grammar::Grammar;
+pub use run::Run;
+pub use signature::{AType, Abstract, Cat, Fun};
