@@ -10,7 +10,7 @@ use Rattle.gft_rules.specs.Rules.{text_of}
 abbrev pub place_part : Place → List (List ℕ) → List ℕ
 place_part p files =
     codes " at " ++ slice_index_or files p.file [] ++ codes ":" ++ decimal p.line ++ codes ":"
-        ++ decimal p.col
+    ++ decimal p.col
 
 -- the same, or nothing where there is no place
 abbrev pub where_part : Option Place → List (List ℕ) → List ℕ
