@@ -1,0 +1,127 @@
+-- Lemmas on one turn of a session.
+use Rattle.std.proofs.Common.{Bool, true, false, ◌||◌, ◌-◌, arith, ◌≡◌, ◌<◌, ◌≤◌, ◌↔◌, ℕ, List, Option, Some, None, Result, Ok, Err, IsErrOf, refl, sym, ap, ◌∙◌, subst}
+use Rattle.std.specs.declared.vec.Vec.{Vec}
+use Rattle.std.specs.declared.alloc.Global.{Global}
+use Rattle.gft_io.specs.Outside.{Rose, raised}
+use Rattle.gft_io.specs.Lines.{first_line, input_limit}
+use Rattle.gft_io.specs.Place as place
+use Rattle.gft_io.specs.Place.{Place, count, Pends, Passes, Answers, KeepsAll}
+use Rattle.gft_io.specs.declared.lines.LineErr.{LineErr}
+use Rattle.gft_io.specs.declared.lines.LineErr.TheVariants.{ReadFault, InputLimit, LineTooLong, NoMemory}
+use Rattle.gft_top.specs.declared.reply.Reply as code
+use Rattle.gft_top.specs.declared.running.Status.{Status}
+use Rattle.gft_top.specs.declared.running.Turn.{Turn}
+use Rattle.gft_top.specs.declared.running.Turn.TheVariants.{Replied, Ended}
+use Rattle.gft_top.specs.Session.{Reply, Modules, IsReply, too_long}
+use Rattle.gft_top.specs.Seen.{reply_of}
+use Rattle.gft_top.specs.Ends.{Puts, Advances, HasCause, Responds, TurnsTold, LinesTold, LinesAny, flagged}
+use Rattle.gft_top.proofs.RunLemmas.{IsGoing, same_told, going_on, going_end, going_stop, late_input}
+use Rattle.gft_top.proofs.SessionLemmas.{rose_later}
+
+abbrev Found : Type 0
+Found = Result (Option (Vec ℕ Global)) LineErr
+
+-- a reply that was put, to the first line of these bytes
+put_told : (session : Option Modules) (old new : Place) (left held holds : Option (List ℕ)) (bytes : List ℕ) (reply : Reply) (before after : ℕ) (turn : Turn)
+    → Passes old new left bytes → IsReply session (first_line bytes) reply → Puts reply held holds before after turn → TurnsTold session old new left held holds bytes turn
+put_told session old new left held holds bytes reply before after (Replied refused) p is q = (p, (reply, is, q.0, q.1))
+put_told session old new left held holds bytes reply before after (Ended status) p is q =
+    subst (λ (s : Status). TurnsTold session old new left held holds bytes (Ended s)) (sym q.0) tt
+
+-- a line was found, or one that is too long, and its reply was put
+pub replied_told : (session : Option Modules) (old new : Place) (left held holds : Option (List ℕ)) (bytes : List ℕ) (found : Found) (reply : code.Reply) (before after : ℕ) (turn : Turn)
+    → Responds session found (Ok reply) → Puts (reply_of reply) held holds before after turn → Answers old new left bytes found → TurnsTold session old new left held holds bytes turn
+replied_told session old new left held holds bytes (Ok (Some line)) reply before after turn r q a =
+    put_told session old new left held holds bytes (reply_of reply) before after turn a.0 (subst (λ (l : List ℕ). IsReply session l (reply_of reply)) a.1 r) q
+replied_told session old new left held holds bytes (Ok None) reply before after turn r q a = absurd r
+replied_told session old new left held holds bytes (Err LineTooLong) reply before after turn r q a =
+    put_told session old new left held holds bytes (reply_of reply) before after turn a.0 (subst (λ (t : Reply). IsReply session (first_line bytes) t) (sym r) (too_long a.1)) q
+replied_told session old new left held holds bytes (Err InputLimit) reply before after turn r q a = absurd r
+replied_told session old new left held holds bytes (Err ReadFault) reply before after turn r q a = absurd r
+replied_told session old new left held holds bytes (Err NoMemory) reply before after turn r q a = absurd r
+
+-- no line was found, or there was no memory for its reply
+pub ended_told : (session : Option Modules) (old new : Place) (left holds : Option (List ℕ)) (bytes : List ℕ) (found : Found) (status : Status)
+    → Responds session found (Err status) → Answers old new left bytes found → TurnsTold session old new left holds holds bytes (Ended status)
+ended_told session old new left holds bytes (Ok (Some line)) status r a = subst (λ (s : Status). TurnsTold session old new left holds holds bytes (Ended s)) (sym r) (same_told holds)
+ended_told session old new left holds bytes (Ok None) status r a = subst (λ (s : Status). TurnsTold session old new left holds holds bytes (Ended s)) (sym r) (a.0, a.1, same_told holds)
+ended_told session old new left holds bytes (Err LineTooLong) status r a = subst (λ (s : Status). TurnsTold session old new left holds holds bytes (Ended s)) (sym r) (same_told holds)
+ended_told session old new left holds bytes (Err InputLimit) status r a = subst (λ (s : Status). TurnsTold session old new left holds holds bytes (Ended s)) (sym r) (a.0, same_told holds)
+ended_told session old new left holds bytes (Err ReadFault) status r a = subst (λ (s : Status). TurnsTold session old new left holds holds bytes (Ended s)) (sym r) (same_told holds)
+ended_told session old new left holds bytes (Err NoMemory) status r a = subst (λ (s : Status). TurnsTold session old new left holds holds bytes (Ended s)) (sym r) (same_told holds)
+
+-- a turn that replied passed bytes
+pub replied_advances : (session : Option Modules) (old new : Place) (found : Found) (reply : code.Reply) (turn : Turn)
+    → Responds session found (Ok reply) → place.Advances old new found → Advances old new turn
+replied_advances session old new found reply (Ended status) r a = tt
+replied_advances session old new (Ok (Some line)) reply (Replied refused) r a = a
+replied_advances session old new (Ok None) reply (Replied refused) r a = absurd r
+replied_advances session old new (Err LineTooLong) reply (Replied refused) r a = a
+replied_advances session old new (Err InputLimit) reply (Replied refused) r a = absurd r
+replied_advances session old new (Err ReadFault) reply (Replied refused) r a = absurd r
+replied_advances session old new (Err NoMemory) reply (Replied refused) r a = absurd r
+
+-- where a reply was put only the sink can have failed
+pub replied_cause : (new : Place) (before after sink_before sink_after : ℕ) (reply : Reply) (held holds : Option (List ℕ)) (turn : Turn)
+    → Puts reply held holds sink_before sink_after turn → HasCause new before after sink_before sink_after turn
+replied_cause new before after sink_before sink_after reply held holds (Replied refused) q = tt
+replied_cause new before after sink_before sink_after reply held holds (Ended status) q =
+    subst (λ (s : Status). HasCause new before after sink_before sink_after (Ended s)) (sym q.0) q.1
+
+-- the cause of an end without a reply
+pub ended_cause : (session : Option Modules) (old new : Place) (before after sink_before sink_after : ℕ) (found : Found) (status : Status)
+    → Responds session found (Err status) → (IsErrOf found ReadFault → Rose before after × KeepsAll old new) → (IsErrOf found InputLimit ↔ (input_limit < count new))
+    → HasCause new before after sink_before sink_after (Ended status)
+ended_cause session old new before after sink_before sink_after (Ok (Some line)) status r f l = subst (λ (s : Status). HasCause new before after sink_before sink_after (Ended s)) (sym r) tt
+ended_cause session old new before after sink_before sink_after (Ok None) status r f l = subst (λ (s : Status). HasCause new before after sink_before sink_after (Ended s)) (sym r) tt
+ended_cause session old new before after sink_before sink_after (Err LineTooLong) status r f l = subst (λ (s : Status). HasCause new before after sink_before sink_after (Ended s)) (sym r) tt
+ended_cause session old new before after sink_before sink_after (Err InputLimit) status r f l = subst (λ (s : Status). HasCause new before after sink_before sink_after (Ended s)) (sym r) (l.0 refl)
+ended_cause session old new before after sink_before sink_after (Err ReadFault) status r f l = subst (λ (s : Status). HasCause new before after sink_before sink_after (Ended s)) (sym r) (f refl).0
+ended_cause session old new before after sink_before sink_after (Err NoMemory) status r f l = subst (λ (s : Status). HasCause new before after sink_before sink_after (Ended s)) (sym r) tt
+
+-- how a run ends where a turn ended it
+pub turn_ends : (session : Option Modules) (input : List ℕ) (refused now : Bool) (old new : Place) (left left' held holds holds' : Option (List ℕ))
+    (g : IsGoing session input refused now old left held holds) (status : Status) → old.passed ≤ input_limit
+    → TurnsTold session old new left' holds holds' g.bytes (Ended status) → LinesTold session input refused held holds' left' (flagged now status)
+turn_ends session input refused true old new left left' held holds holds' g Status.Done b t = going_end session input refused true old new left left' held holds holds' g true t.0 t.1 b t.2 refl
+turn_ends session input refused false old new left left' held holds holds' g Status.Done b t = going_end session input refused false old new left left' held holds holds' g false t.0 t.1 b t.2 refl
+turn_ends session input refused now old new left left' held holds holds' g Status.SomeRefused b t = absurd t
+turn_ends session input refused now old new left left' held holds holds' g Status.Usage b t = absurd t
+turn_ends session input refused true old new left left' held holds holds' g Status.ReadFault b t = going_stop session input refused true old left held holds holds' g t
+turn_ends session input refused false old new left left' held holds holds' g Status.ReadFault b t = going_stop session input refused false old left held holds holds' g t
+turn_ends session input refused true old new left left' held holds holds' g Status.WriteFault b t = tt
+turn_ends session input refused false old new left left' held holds holds' g Status.WriteFault b t = tt
+turn_ends session input refused true old new left left' held holds holds' g Status.NoMemory b t = going_stop session input refused true old left held holds holds' g t
+turn_ends session input refused false old new left left' held holds holds' g Status.NoMemory b t = going_stop session input refused false old left held holds holds' g t
+turn_ends session input refused true old new left left' held holds holds' g Status.InputLimit b t =
+    (late_input session input refused true old left held holds g t.0, going_stop session input refused true old left held holds holds' g t.1)
+turn_ends session input refused false old new left left' held holds holds' g Status.InputLimit b t =
+    (late_input session input refused false old left held holds g t.0, going_stop session input refused false old left held holds holds' g t.1)
+
+-- the causes of that end
+pub turn_any : (now : Bool) (new : Place) (before mid after sink_before sink_mid sink_after taken_before taken_after : ℕ) (status : Status)
+    → before ≤ mid → sink_before ≤ sink_mid → HasCause new mid after sink_mid sink_after (Ended status) → taken_after ≡ raised taken_before (count new)
+    → LinesAny before after sink_before sink_after taken_before taken_after (flagged now status)
+turn_any true new before mid after sink_before sink_mid sink_after taken_before taken_after Status.Done f k h t = tt
+turn_any false new before mid after sink_before sink_mid sink_after taken_before taken_after Status.Done f k h t = tt
+turn_any now new before mid after sink_before sink_mid sink_after taken_before taken_after Status.SomeRefused f k h t = absurd h
+turn_any now new before mid after sink_before sink_mid sink_after taken_before taken_after Status.Usage f k h t = absurd h
+turn_any true new before mid after sink_before sink_mid sink_after taken_before taken_after Status.ReadFault f k h t = rose_later before mid after f h
+turn_any false new before mid after sink_before sink_mid sink_after taken_before taken_after Status.ReadFault f k h t = rose_later before mid after f h
+turn_any true new before mid after sink_before sink_mid sink_after taken_before taken_after Status.WriteFault f k h t = rose_later sink_before sink_mid sink_after k h
+turn_any false new before mid after sink_before sink_mid sink_after taken_before taken_after Status.WriteFault f k h t = rose_later sink_before sink_mid sink_after k h
+turn_any true new before mid after sink_before sink_mid sink_after taken_before taken_after Status.NoMemory f k h t = tt
+turn_any false new before mid after sink_before sink_mid sink_after taken_before taken_after Status.NoMemory f k h t = tt
+turn_any true new before mid after sink_before sink_mid sink_after taken_before taken_after Status.InputLimit f k h t = (count new, h, t)
+turn_any false new before mid after sink_before sink_mid sink_after taken_before taken_after Status.InputLimit f k h t = (count new, h, t)
+
+-- what was taken by a turn and before it
+pub taken_on : (start mid new a b : ℕ) → mid ≡ raised start a → new ≡ raised mid (b - a) → a ≤ b → new ≡ raised start b
+taken_on start mid new a b e f h = omega (arith, e, f, h)
+
+-- a turn that replied goes on
+pub turn_going : (session : Option Modules) (input : List ℕ) (refused now after said : Bool) (old new : Place) (left left' held holds holds' : Option (List ℕ))
+    (g : IsGoing session input refused now old left held holds)
+    → TurnsTold session old new left' holds holds' g.bytes (Replied said) → after ≡ (now || said) → IsGoing session input refused after new left' held holds'
+turn_going session input refused now after said old new left left' held holds holds' g t e =
+    going_on session input refused now after old new left left' held holds holds' g t.1.0 t.0 t.1.1 (e ∙ ap (λ b. now || b) t.1.2) t.1.3

@@ -1,0 +1,169 @@
+-- How a session goes on line by line, and how it may end.
+use Rattle.std.specs.Prelude.{◌≡◌, ℕ, ◌+◌, ◌<◌, ◌≤◌, Bool, true, false, ◌||◌, List, [], ◌++◌, length, Option, Some, None, Result, Ok, Err, codes}
+use Rattle.gft_io.specs.Outside.{Files, Rose, Told, Same, Appends, raised}
+use Rattle.gft_io.specs.Lines.{lines_of, first_line, line_size, input_limit}
+use Rattle.gft_io.specs.Place.{Place, count, Pends, Passes}
+use Rattle.gft_top.specs.declared.running.Status.{Status}
+use Rattle.gft_top.specs.declared.running.Status.TheVariants.{Done, SomeRefused, Usage, WriteFault}
+use Rattle.gft_io.specs.declared.lines.LineErr.{LineErr}
+use Rattle.gft_io.specs.declared.lines.LineErr.TheVariants.{ReadFault, InputLimit, LineTooLong, NoMemory}
+use Rattle.std.specs.declared.vec.Vec.{Vec}
+use Rattle.std.specs.declared.alloc.Global.{Global}
+use Rattle.gft_top.specs.declared.reply.Reply as code
+use Rattle.gft_top.specs.Seen.{reply_of}
+use Rattle.gft_top.specs.declared.running.Turn.{Turn}
+use Rattle.gft_top.specs.declared.running.Turn.TheVariants.{Replied, Ended}
+use Rattle.gft_top.specs.Session.{Reply, Modules, Import, IsImport, IsReply, plain_refusal}
+use Rattle.gft_top.specs.Run.{AreReplies, IsOutput, bytes_of, has_refusal, usage_line}
+
+-- what the writing of a reply did: it is written, or the sink's faults rose
+abbrev pub Puts : Reply → Option (List ℕ) → Option (List ℕ) → ℕ → ℕ → Turn → Type 0
+Puts reply old new before after (Replied refused) = (refused ≡ reply.refused) × Told (Appends reply.text) old new
+Puts reply old new before after (Ended status) = (status ≡ WriteFault) × Rose before after
+
+-- a turn that replied passed some bytes
+abbrev pub Advances : Place → Place → Turn → Type 0
+Advances old new (Replied refused) = old.passed < new.passed
+Advances old new (Ended status) = Unit {0}
+
+-- the causes of an end, over any source and any sink
+abbrev pub HasCause : Place → ℕ → ℕ → ℕ → ℕ → Turn → Type 0
+HasCause new before after sink_before sink_after (Replied refused) = Unit {0}
+HasCause new before after sink_before sink_after (Ended Done) = Unit {0}
+HasCause new before after sink_before sink_after (Ended SomeRefused) = ⊥
+HasCause new before after sink_before sink_after (Ended Usage) = ⊥
+HasCause new before after sink_before sink_after (Ended Status.ReadFault) = Rose before after
+HasCause new before after sink_before sink_after (Ended WriteFault) = Rose sink_before sink_after
+HasCause new before after sink_before sink_after (Ended Status.NoMemory) = Unit {0}
+HasCause new before after sink_before sink_after (Ended Status.InputLimit) = input_limit < count new
+
+-- what is replied to a line, or how the run ends where there is none
+abbrev pub Responds : Option Modules → Result (Option (Vec ℕ Global)) LineErr → Result code.Reply Status → Type 0
+Responds session (Ok (Some line)) (Ok reply) = IsReply session line.items (reply_of reply)
+Responds session (Ok None) (Ok reply) = ⊥
+Responds session (Err LineTooLong) (Ok reply) = reply_of reply ≡ plain_refusal (codes "LineTooLong")
+Responds session (Err InputLimit) (Ok reply) = ⊥
+Responds session (Err ReadFault) (Ok reply) = ⊥
+Responds session (Err NoMemory) (Ok reply) = ⊥
+Responds session (Ok (Some line)) (Err status) = status ≡ Status.NoMemory
+Responds session (Ok None) (Err status) = status ≡ Done
+Responds session (Err LineTooLong) (Err status) = status ≡ Status.NoMemory
+Responds session (Err InputLimit) (Err status) = status ≡ Status.InputLimit
+Responds session (Err ReadFault) (Err status) = status ≡ Status.ReadFault
+Responds session (Err NoMemory) (Err status) = status ≡ Status.NoMemory
+
+-- what a turn did where these bytes are still to be cut into lines
+abbrev pub TurnsTold : Option Modules → Place → Place → Option (List ℕ) → Option (List ℕ) → Option (List ℕ) → List ℕ → Turn → Type 0
+TurnsTold session old new left held holds bytes (Replied refused) =
+    Passes old new left bytes × ((reply : Reply) × IsReply session (first_line bytes) reply × (refused ≡ reply.refused) × Told (Appends reply.text) held holds)
+TurnsTold session old new left held holds bytes (Ended Done) = (bytes ≡ []) × Pends new left [] × Told Same held holds
+TurnsTold session old new left held holds bytes (Ended SomeRefused) = ⊥
+TurnsTold session old new left held holds bytes (Ended Usage) = ⊥
+TurnsTold session old new left held holds bytes (Ended Status.ReadFault) = Told Same held holds
+TurnsTold session old new left held holds bytes (Ended WriteFault) = Unit {0}
+TurnsTold session old new left held holds bytes (Ended Status.NoMemory) = Told Same held holds
+TurnsTold session old new left held holds bytes (Ended Status.InputLimit) = (input_limit < old.passed + line_size bytes) × Told Same held holds
+
+-- all lines of the input were replied to, and the input was read to its end
+pub record IsAnswered (session : Option Modules) (input : List ℕ) (refused : Bool) (held holds left : Option (List ℕ)) (some_refused : Bool) : Type 0 where
+  pub replies : List Reply
+  pub are : AreReplies session (lines_of input) replies
+  pub written : Told (Appends (bytes_of replies)) held holds
+  pub flag : (refused || has_refusal replies) ≡ some_refused
+  pub read : left ≡ Some []
+  pub within : length input ≤ input_limit
+
+-- the first of the lines were replied to, each whole
+pub record IsBegun (session : Option Modules) (input : List ℕ) (held holds : Option (List ℕ)) : Type 0 where
+  pub first : List (List ℕ)
+  pub others : List (List ℕ)
+  pub lines : lines_of input ≡ first ++ others
+  pub replies : List Reply
+  pub are : AreReplies session first replies
+  pub written : Told (Appends (bytes_of replies)) held holds
+
+-- the end of a run at the end of its input, where some reply was a refusal or none was
+abbrev pub flagged : Bool → Status → Status
+flagged true Done = SomeRefused
+flagged true SomeRefused = SomeRefused
+flagged true Usage = Usage
+flagged true Status.ReadFault = Status.ReadFault
+flagged true WriteFault = WriteFault
+flagged true Status.NoMemory = Status.NoMemory
+flagged true Status.InputLimit = Status.InputLimit
+flagged false status = status
+
+-- how the replies to an input end
+abbrev pub LinesTold : Option Modules → List ℕ → Bool → Option (List ℕ) → Option (List ℕ) → Option (List ℕ) → Status → Type 0
+LinesTold session input refused held holds left Done = IsAnswered session input refused held holds left false
+LinesTold session input refused held holds left SomeRefused = IsAnswered session input refused held holds left true
+LinesTold session input refused held holds left Usage = ⊥
+LinesTold session input refused held holds left Status.ReadFault = IsBegun session input held holds
+LinesTold session input refused held holds left WriteFault = Unit {0}
+LinesTold session input refused held holds left Status.NoMemory = IsBegun session input held holds
+LinesTold session input refused held holds left Status.InputLimit = (input_limit < length input) × IsBegun session input held holds
+
+-- the causes of an end, over any source and any sink
+abbrev pub LinesAny : ℕ → ℕ → ℕ → ℕ → ℕ → ℕ → Status → Type 0
+LinesAny before after sink_before sink_after taken_before taken_after Done = Unit {0}
+LinesAny before after sink_before sink_after taken_before taken_after SomeRefused = Unit {0}
+LinesAny before after sink_before sink_after taken_before taken_after Usage = ⊥
+LinesAny before after sink_before sink_after taken_before taken_after Status.ReadFault = Rose before after
+LinesAny before after sink_before sink_after taken_before taken_after WriteFault = Rose sink_before sink_after
+LinesAny before after sink_before sink_after taken_before taken_after Status.NoMemory = Unit {0}
+LinesAny before after sink_before sink_after taken_before taken_after Status.InputLimit = (n : ℕ) × (input_limit < n) × (taken_after ≡ raised taken_before n)
+
+-- a whole session: what was written, and whether some reply is a refusal
+pub record IsWhole (Faulted : Type 0) (files : Files) (file input : List ℕ) (held holds left : Option (List ℕ)) (some_refused : Bool) : Type 0 where
+  pub replies : List Reply
+  pub are : IsOutput Faulted files file input replies
+  pub written : Told (Appends (bytes_of replies)) held holds
+  pub flag : has_refusal replies ≡ some_refused
+  pub read : left ≡ Some []
+  pub within : length input ≤ input_limit
+
+-- what a session that ended early had written: nothing, or the reply to the import and those to the first lines, each whole
+pub data IsPart (Faulted : Type 0) (files : Files) (file input : List ℕ) (held holds : Option (List ℕ)) : Type 0 where
+  nothing : Told Same held holds → IsPart Faulted files file input held holds
+  some : {imported : Import} {mid : Option (List ℕ)} → IsImport Faulted files file imported → Told (Appends imported.reply.text) held mid
+      → IsBegun imported.modules input mid holds → IsPart Faulted files file input held holds
+
+-- how a session over that file and this input ends
+abbrev pub SessionTold : Type 0 → Files → List ℕ → List ℕ → Option (List ℕ) → Option (List ℕ) → Option (List ℕ) → Status → Type 0
+SessionTold Faulted files file input held holds left Done = IsWhole Faulted files file input held holds left false
+SessionTold Faulted files file input held holds left SomeRefused = IsWhole Faulted files file input held holds left true
+SessionTold Faulted files file input held holds left Usage = ⊥
+SessionTold Faulted files file input held holds left Status.ReadFault = IsPart Faulted files file input held holds
+SessionTold Faulted files file input held holds left WriteFault = Unit {0}
+SessionTold Faulted files file input held holds left Status.NoMemory = IsPart Faulted files file input held holds
+SessionTold Faulted files file input held holds left Status.InputLimit = (input_limit < length input) × IsPart Faulted files file input held holds
+
+-- how a wrong call ends
+abbrev pub UsageTold : Option (List ℕ) → Option (List ℕ) → Status → Type 0
+UsageTold held holds Done = ⊥
+UsageTold held holds SomeRefused = ⊥
+UsageTold held holds Usage = Told (Appends usage_line) held holds
+UsageTold held holds Status.ReadFault = ⊥
+UsageTold held holds WriteFault = Unit {0}
+UsageTold held holds Status.NoMemory = ⊥
+UsageTold held holds Status.InputLimit = ⊥
+
+-- how a run ends: a session over its file, or a wrong call
+abbrev pub RunTold : Type 0 → Files → Option (List ℕ) → List ℕ → Option (List ℕ) → Option (List ℕ) → Option (List ℕ) → Status → Type 0
+RunTold Faulted files (Some file) input held holds left status = SessionTold Faulted files file input held holds left status
+RunTold Faulted files None input held holds left status = UsageTold held holds status
+
+-- the causes of the end of a wrong call
+abbrev pub UsageAny : ℕ → ℕ → Status → Type 0
+UsageAny sink_before sink_after Done = ⊥
+UsageAny sink_before sink_after SomeRefused = ⊥
+UsageAny sink_before sink_after Usage = Unit {0}
+UsageAny sink_before sink_after Status.ReadFault = ⊥
+UsageAny sink_before sink_after WriteFault = Rose sink_before sink_after
+UsageAny sink_before sink_after Status.NoMemory = ⊥
+UsageAny sink_before sink_after Status.InputLimit = ⊥
+
+-- the causes of the end of a run, over any source and any sink
+abbrev pub RunAny : Option (List ℕ) → ℕ → ℕ → ℕ → ℕ → ℕ → ℕ → Status → Type 0
+RunAny (Some file) before after sink_before sink_after taken_before taken_after status = LinesAny before after sink_before sink_after taken_before taken_after status
+RunAny None before after sink_before sink_after taken_before taken_after status = UsageAny sink_before sink_after status

@@ -1,0 +1,13 @@
+pub mod Tokens
+pub mod Lexer
+pub mod FirstForm
+pub mod Reading
+pub mod Names
+pub mod Fitting
+pub mod Speech
+pub mod Compiled
+pub mod Files
+pub mod Session
+pub mod Seen
+pub mod Run
+pub mod Ends
