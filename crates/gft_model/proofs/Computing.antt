@@ -1,0 +1,76 @@
+-- What the definitions compute at one layer, so that worked examples can be computed.
+use Rattle.std.proofs.Common.{◌≡◌, ap, ℕ, List, Option, Bool}
+use Rattle.gft_core.specs.declared.tree.Tree.{Tree, roll-Tree}
+use Rattle.gft_core.specs.declared.tree.Tree.TheOpen.{Tree-F}
+use Rattle.gft_core.specs.declared.tree.Tree.TheFolds.{fold-roll-Tree, map-Tree}
+use Rattle.gft_syntax.specs.declared.ctype.CType.{CType, roll-CType}
+use Rattle.gft_syntax.specs.declared.ctype.CType.TheOpen.{CType-F}
+use Rattle.gft_syntax.specs.declared.ctype.CType.TheFolds.{fold-roll-CType, map-CType}
+use Rattle.gft_syntax.specs.declared.flat.Flat.{Flat}
+use Rattle.gft_syntax.specs.declared.linear.LinTerm.{LinTerm, roll-LinTerm}
+use Rattle.gft_syntax.specs.declared.linear.LinTerm.TheOpen.{LinTerm-F}
+use Rattle.gft_syntax.specs.declared.linear.LinTerm.TheFolds.{fold-roll-LinTerm, map-LinTerm}
+use Rattle.gft_syntax.specs.declared.pattern.Pattern.{Pattern, roll-Pattern}
+use Rattle.gft_syntax.specs.declared.pattern.Pattern.TheOpen.{Pattern-F}
+use Rattle.gft_syntax.specs.declared.pattern.Pattern.TheFolds.{fold-roll-Pattern, map-Pattern}
+use Rattle.gft_syntax.specs.declared.value.Param.{Param, roll-Param, out-Param}
+use Rattle.gft_syntax.specs.declared.value.Param.TheOpen.{Param-F}
+use Rattle.gft_syntax.specs.declared.value.Param.TheFolds.{fold-roll-Param, map-Param}
+use Rattle.gft_syntax.specs.declared.value.Value.{Value, roll-Value}
+use Rattle.gft_syntax.specs.declared.value.Value.TheOpen.{Value-F}
+use Rattle.gft_syntax.specs.declared.value.Value.TheFolds.{fold-Value, fold-roll-Value, map-Value}
+use Rattle.gft_model.specs.ConcreteTypes.{Parts, parts_of, layer_values, leaves_step}
+use Rattle.gft_model.specs.Matching.{Subject, Match, match_of, match_step}
+use Rattle.gft_model.specs.Outcomes.{Results, Environment, results_of, step}
+use Rattle.gft_core.specs.declared.symbol.Sym.{Sym}
+use Rattle.gft_model.specs.TreeStrings.{first_string, first_string_step}
+use Rattle.gft_model.specs.TreeValues.{string_leaves, leaves_of_step, Numbered, number_step, AtPosition, value_of_layer, bracketed_values}
+use Rattle.gft_model.specs.Values.{same_param, same_step, cut_value, cut_step}
+
+pub results-roll : (opers : ℕ → Results) (d : LinTerm-F LinTerm) (env : Environment) →
+    results_of opers (roll-LinTerm d) env ≡ step opers (map-LinTerm LinTerm (Environment → Results) (results_of opers) d) env
+results-roll opers d env = ap (λ (f : Environment → Results). f env) (fold-roll-LinTerm (Environment → Results) (step opers) d)
+
+pub match-roll : (d : Pattern-F Pattern) (s : Subject) →
+    match_of (roll-Pattern d) s ≡ match_step (map-Pattern Pattern (Subject → Match) match_of d) s
+match-roll d s = ap (λ (f : Subject → Match). f s) (fold-roll-Pattern (Subject → Match) match_step d)
+
+pub same-roll : (d : Param-F Param) (v : Param) →
+    same_param (roll-Param d) v ≡ same_step (map-Param Param (Param → Bool) same_param d) (out-Param v)
+same-roll d v = ap (λ (f : Param → Bool). f v) (fold-roll-Param (Param → Bool) (λ d v. same_step d (out-Param v)) d)
+
+pub cut-roll : (d : CType-F CType) (v : Value) →
+    cut_value (roll-CType d) v ≡ cut_step (map-CType CType (Value → Value) cut_value d) v
+cut-roll d v = ap (λ (f : Value → Value). f v) (fold-roll-CType (Value → Value) cut_step d)
+
+pub leaves-roll : (d : CType-F CType) →
+    (parts_of (roll-CType d)).leaves ≡ leaves_step (map-CType CType Parts parts_of d)
+leaves-roll d = ap (λ (p : Parts). p.leaves) (fold-roll-CType Parts (λ d. record { values = layer_values d; leaves = leaves_step d }) d)
+
+pub part_values-roll : (d : CType-F CType) →
+    (parts_of (roll-CType d)).values ≡ layer_values (map-CType CType Parts parts_of d)
+part_values-roll d = ap (λ (p : Parts). p.values) (fold-roll-CType Parts (λ d. record { values = layer_values d; leaves = leaves_step d }) d)
+
+pub tree-roll : (flat : Flat) (lang : List ℕ) (d : Tree-F Tree) (p C : List ℕ) →
+    bracketed_values flat lang (roll-Tree d) p C ≡ value_of_layer flat lang (map-Tree Tree AtPosition (bracketed_values flat lang) d) p C
+tree-roll flat lang d p C = ap (λ (f : AtPosition). f p C) (fold-roll-Tree AtPosition (value_of_layer flat lang) d)
+
+pub numbered-roll : (i : ℕ) (d : Value-F Value) (l : ℕ) →
+    fold-Value Numbered (number_step i) (roll-Value d) l ≡ number_step i (map-Value Value Numbered (fold-Value Numbered (number_step i)) d) l
+numbered-roll i d l = ap (λ (f : Numbered). f l) (fold-roll-Value Numbered (number_step i) d)
+
+pub numbered_value-roll : (i : ℕ) (d : Value-F Value) (l : ℕ) →
+    (fold-Value Numbered (number_step i) (roll-Value d) l).0 ≡ (number_step i (map-Value Value Numbered (fold-Value Numbered (number_step i)) d) l).0
+numbered_value-roll i d l = ap (λ (r : Value × ℕ). r.0) (numbered-roll i d l)
+
+pub numbered_next-roll : (i : ℕ) (d : Value-F Value) (l : ℕ) →
+    (fold-Value Numbered (number_step i) (roll-Value d) l).1 ≡ (number_step i (map-Value Value Numbered (fold-Value Numbered (number_step i)) d) l).1
+numbered_next-roll i d l = ap (λ (r : Value × ℕ). r.1) (numbered-roll i d l)
+
+pub first_string-roll : (d : Value-F Value) →
+    first_string (roll-Value d) ≡ first_string_step (map-Value Value (Option (List Sym)) first_string d)
+first_string-roll d = fold-roll-Value (Option (List Sym)) first_string_step d
+
+pub string_leaves-roll : (d : Value-F Value) →
+    string_leaves (roll-Value d) ≡ leaves_of_step (map-Value Value (List (List Sym)) string_leaves d)
+string_leaves-roll d = fold-roll-Value (List (List Sym)) leaves_of_step d

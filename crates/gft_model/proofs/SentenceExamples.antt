@@ -1,0 +1,156 @@
+-- Worked examples of sentences: in Dead only `yes` may begin a sentence.
+use Rattle.std.specs.Prelude.{◌≡◌, ℕ, zero, suc, Bool, true, false, List, [], ◌∷◌, ◌++◌, map, codes, Contains, Option, Some, None, slice_get, slice_index_or}
+use Rattle.std.specs.Str.{bytes_eq}
+use Rattle.std.proofs.Common.{refl, sym, ap, ◌∙◌, subst, arith}
+use Rattle.gft_core.specs.declared.symbol.Sym.{Sym}
+use Rattle.gft_core.specs.declared.symbol.Sym.TheVariants.{Tok}
+use Rattle.gft_core.specs.declared.tree.Tree.{Tree, App}
+use Rattle.gft_core.specs.declared.tree.Tree.TheVariants.{outs-App}
+use Rattle.gft_pmcfg.specs.declared.signature.Fun.{Fun}
+use Rattle.gft_pmcfg.specs.declared.concrete.Prod.{Prod}
+use Rattle.gft_pmcfg.specs.declared.concrete.Ref.{Ref}
+use Rattle.gft_model.specs.Trees.{IsHole, IsApplication}
+use Rattle.gft_model.specs.Skeleton.{HasSkeletonType, HaveSkeletonTypes, hole, integer, text, application, none, more, categories_of}
+use Rattle.gft_model.specs.Brackets.{Mark, grammar, Piece, marked}
+use Rattle.gft_model.specs.Runs.{Strings, IsRef, listed, of_numbers, of_strings, applied, filled}
+use Rattle.gft_model.specs.RunStrings as strings
+use Rattle.gft_model.specs.RunStrings.{HasValue, IsBracketedString}
+use Rattle.gft_model.specs.Listing.{Language}
+use Rattle.gft_model.specs.Sentences.{IsSentence, IsNext, Next, a_word, any_integer, any_string, next_of}
+use Rattle.gft_model.proofs.RunLemmas.{gives, no_values}
+use Rattle.gft_model.proofs.Grammars.{dead, dead_eng, whole}
+
+-- the language of S
+abbrev language : Language
+language t b = IsBracketedString dead dead_eng 3 t b
+
+abbrev h : Tree
+h = App (codes "h") []
+
+abbrev h_gives : Strings
+h_gives = applied [] [] ((Tok (codes "yes") ∷ []) ∷ [])
+
+h_is_s : HasSkeletonType dead [] h 3
+h_is_s = application (2, omega arith, refl) (outs-App _ _) none
+
+h_is_no_hole : (k : ℕ) → ¬ IsHole h k
+h_is_no_hole k e = let layers = outs-App (codes "h") [] in cc
+
+h_string : language h (filled (h_gives ∷ []) whole)
+h_string = record {
+  nonterminal = 3;
+  components = h_gives;
+  value = strings.HasValue.application (outs-App _ _) (2, omega arith, refl) refl strings.none;
+  category = λ k e. absurd (h_is_no_hole k e);
+  seq = whole;
+  ref = listed (1, omega arith, refl);
+  string = refl;
+}
+
+yes_is_sentence : IsSentence dead language 3 (codes "yes" ∷ [])
+yes_is_sentence = record { tree = h; of_category = h_is_s; string = _; of_tree = h_string; words_are = refl }
+
+yes_is_next : IsNext dead language 3 [] (a_word (codes "yes"))
+yes_is_next = record {
+  tree = h;
+  of_category = h_is_s;
+  string = _;
+  of_tree = h_string;
+  before = [];
+  here =
+      (grammar, codes "yes");
+  after = [];
+  parts = refl;
+  begins = refl;
+  is = refl;
+}
+
+mutual
+  -- D has no closed trees
+  no_d : {t : Tree} {c : ℕ} → HasSkeletonType dead [] t c → c ≡ 2 → ⊥
+  no_d (hole h b (k, l, m)) e = absurd (omega (arith, l))
+  no_d (integer h b) e = absurd (omega (arith, e))
+  no_d (text h b) e = absurd (omega (arith, e))
+  no_d (application (zero, b, m) h ds) e = absurd (omega (arith, ap (λ (f : Fun). f.result.cat) m, e))
+  no_d (application (suc zero, b, m) h ds) e = no_ds ds (sym (ap categories_of m))
+  no_d (application (suc (suc zero), b, m) h ds) e = absurd (omega (arith, ap (λ (f : Fun). f.result.cat) m, e))
+  no_d (application (suc (suc (suc k)), b, m) h ds) e = absurd (omega (arith, b))
+
+  no_ds : {ts : List Tree} {cs : List ℕ} → HaveSkeletonTypes dead [] ts cs → cs ≡ 2 ∷ [] → ⊥
+  no_ds none e = cc
+  no_ds (more d ds) e = no_d d cc
+
+no_arguments : {ts : List Tree} {cs : List ℕ} → HaveSkeletonTypes dead [] ts cs → cs ≡ [] → ts ≡ []
+no_arguments none e = refl
+no_arguments (more d ds) e = cc
+
+-- the only closed tree of S is `h`
+only_h : {t : Tree} {c : ℕ} → HasSkeletonType dead [] t c → c ≡ 3 → IsApplication t (codes "h") []
+only_h (hole h b (k, l, m)) e = absurd (omega (arith, l))
+only_h (integer h b) e = absurd (omega (arith, e))
+only_h (text h b) e = absurd (omega (arith, e))
+only_h (application (zero, b, m) h ds) e = absurd (no_ds ds (sym (ap categories_of m)))
+only_h (application (suc zero, b, m) h ds) e = absurd (omega (arith, ap (λ (f : Fun). f.result.cat) m, e))
+only_h (application (suc (suc zero), b, m) h ds) e =
+    let name = ap (λ (f : Fun). f.name) m in
+    let nothing = no_arguments ds (sym (ap categories_of m)) in cc
+only_h (application (suc (suc (suc k)), b, m) h ds) e = absurd (omega (arith, b))
+
+-- whether there is a function and it is `h`
+abbrev is_h : Option Fun → Bool
+is_h None = false
+is_h (Some f) = bytes_eq f.name (codes "h")
+
+of_h : (prod : Prod) → Contains dead_eng.prods prod → is_h (slice_get dead.funs prod.fun) ≡ true
+    → prod.seqs ≡ (Tok (codes "yes") ∷ []) ∷ []
+of_h prod (zero, b, e) n = let wrong : false ≡ true =
+    subst (λ (q : Prod). is_h (slice_get dead.funs q.fun) ≡ true) (sym e) n in cc
+of_h prod (suc zero, b, e) n = let wrong : false ≡ true =
+    subst (λ (q : Prod). is_h (slice_get dead.funs q.fun) ≡ true) (sym e) n in cc
+of_h prod (suc (suc zero), b, e) n = ap (λ (q : Prod). q.seqs) (sym e)
+of_h prod (suc (suc (suc k)), b, e) n = absurd (omega (arith, b))
+
+only_ref : {n : ℕ} {seq : List Sym} → IsRef dead_eng n seq → seq ≡ whole
+only_ref (listed (zero, b, e)) = sym (ap (λ (r : Ref). r.seq) e)
+only_ref (listed (suc zero, b, e)) = sym (ap (λ (r : Ref). r.seq) e)
+only_ref (listed (suc (suc k), b, e)) = absurd (omega (arith, b))
+only_ref of_numbers = refl
+only_ref of_strings = refl
+
+-- a string of a closed tree of S is that of `h`
+only_yes : {t : Tree} {b : List Piece} → HasSkeletonType dead [] t 3 → language t b
+    → b ≡ filled (h_gives ∷ []) whole
+only_yes d s =
+    let g = gives (codes "h") [] (only_h d refl) s.value in
+    let is : is_h (slice_get dead.funs g.prod.fun) ≡ true = ap is_h g.of_function
+    ∙ ap (λ (n : List ℕ). bytes_eq n (codes "h")) g.name in
+    let components : s.components ≡ h_gives
+    = g.components ∙ ap (λ (vs : List Strings). applied [] vs g.prod.seqs) (no_values g.arguments)
+    ∙ ap (λ (qs : List (List Sym)). applied [] [] qs) (of_h g.prod g.listed is) in
+    s.string ∙ ap (λ (vs : Strings). filled (vs ∷ []) s.seq) components
+    ∙ ap (λ (seq : List Sym). filled (h_gives ∷ []) seq) (only_ref s.ref)
+
+-- whether what may stand next is the word `yes`
+abbrev is_yes : Next → Bool
+is_yes (a_word w) = bytes_eq w (codes "yes")
+is_yes any_integer = false
+is_yes any_string = false
+
+-- the first of the marked words, or one that is none
+abbrev first_of : List (Mark × List ℕ) → Mark × List ℕ
+first_of ws = slice_index_or ws 0 (grammar, [])
+
+-- no words have no marks
+no_words : (ws : List (Mark × List ℕ)) → map (λ (w : Mark × List ℕ). w.1) ws ≡ [] → ws ≡ []
+no_words [] e = refl
+no_words (w ∷ ws) e = cc
+
+-- a word that leads only to a category without trees may not stand next
+no_is_not_next : ¬ IsNext dead language 3 [] (a_word (codes "no"))
+no_is_not_next s =
+    let words : marked (filled (h_gives ∷ []) whole) ≡ s.before ++ s.here ∷ s.after =
+    ap marked (sym (only_yes s.of_category s.of_tree)) ∙ s.parts in
+    let nothing : s.before ≡ [] = no_words s.before s.begins in
+    let first : (grammar, codes "yes") ≡ s.here = ap first_of words
+    ∙ ap (λ (ws : List (Mark × List ℕ)). first_of (ws ++ s.here ∷ s.after)) nothing in
+    let wrong : true ≡ false = ap (λ (w : Mark × List ℕ). is_yes (next_of w)) first ∙ ap is_yes s.is in cc

@@ -1,0 +1,161 @@
+-- Concrete types: their values in order, their cells and cases, and which is a subtype of which.
+use Rattle.std.specs.Prelude.{◌≡◌, ℕ, zero, suc, ◌+◌, ◌*◌, List, [], ◌∷◌, ◌++◌, map, Bool, true, false, ◌≤◌, Option, Some, None, bytes_eq, if◌then◌else◌}
+use Rattle.std.specs.List.{flat_map, list_all}
+use Rattle.gft_syntax.specs.declared.ctype.CType.{CType, out-CType}
+use Rattle.gft_syntax.specs.declared.ctype.CType.TheOpen.{CType-F}
+use Rattle.gft_syntax.specs.declared.ctype.CType.TheFolds.{fold-CType, map-CType}
+use Rattle.gft_syntax.specs.declared.value.Param.{Param}
+use Rattle.gft_syntax.specs.declared.value.PathStep.{PathStep}
+use Rattle.gft_syntax.specs.declared.value.PathStep.TheVariants.{Label, Cell}
+use Rattle.gft_model.specs.ValueForms.{con_param, number_param, record_param}
+
+-- the numbers from 0 to n
+abbrev pub upto : ℕ → List ℕ
+upto zero = 0 ∷ []
+upto (suc n) = upto n ++ suc n ∷ []
+
+-- one of each list, the choice from the first list counting most
+abbrev pub choices : {A : Type 0} → List (List A) → List (List A)
+choices [] = [] ∷ []
+choices (xs ∷ xss) = flat_map (λ x. map (λ rest. x ∷ rest) (choices xss)) xs
+
+-- fields with one value of each list, in the order of choices
+abbrev pub field_choices : {A : Type 0} → List (List ℕ × List A) → List (List (List ℕ × A))
+field_choices [] = [] ∷ []
+field_choices (f ∷ fs) = flat_map (λ x. map (λ rest. (f.0, x) ∷ rest) (field_choices fs)) f.1
+
+-- what a layer's values are, from those of its parts
+abbrev pub values_step : CType-F (List Param) → List Param
+values_step CType-F.Str = []
+values_step (CType-F.Param w cs) = flat_map (λ c. map (con_param c.0) (choices c.1)) cs
+values_step (CType-F.Ints n) = map number_param (upto n)
+values_step (CType-F.Record fs) = map record_param (field_choices fs)
+values_step (CType-F.Table P V) = []
+values_step (CType-F.Fun A B) = []
+values_step CType-F.TypeSort = []
+values_step CType-F.ParamSort = []
+
+-- the values of a finite type in order: by constructor, then by arguments from left to right;
+-- records by their labels
+abbrev pub values_of : CType → List Param
+values_of = fold-CType (List Param) values_step
+
+-- whether a layer's type is finite, from whether its parts are
+abbrev pub finite_step : CType-F Bool → Bool
+finite_step CType-F.Str = false
+finite_step (CType-F.Param w cs) = list_all (λ c. list_all (λ b. b) c.1) cs
+finite_step (CType-F.Ints n) = true
+finite_step (CType-F.Record fs) = list_all (λ f. f.1) fs
+finite_step (CType-F.Table P V) = false
+finite_step (CType-F.Fun A B) = false
+finite_step CType-F.TypeSort = false
+finite_step CType-F.ParamSort = false
+
+-- a type that tables may be over: a parameter type, Ints n, or a record type of such types
+abbrev pub is_finite : CType → Bool
+is_finite = fold-CType Bool finite_step
+
+-- the sum and the product of a list
+abbrev pub sum_of : List ℕ → ℕ
+sum_of [] = 0
+sum_of (n ∷ ns) = n + sum_of ns
+
+abbrev pub product_of : List ℕ → ℕ
+product_of [] = 1
+product_of (n ∷ ns) = n * product_of ns
+
+-- how many values a layer's type has, from how many its parts have
+abbrev pub count_step : CType-F ℕ → ℕ
+count_step CType-F.Str = 0
+count_step (CType-F.Param w cs) = sum_of (map (λ c. product_of c.1) cs)
+count_step (CType-F.Ints n) = n + 1
+count_step (CType-F.Record fs) = product_of (map (λ f. f.1) fs)
+count_step (CType-F.Table P V) = 0
+count_step (CType-F.Fun A B) = 0
+count_step CType-F.TypeSort = 0
+count_step CType-F.ParamSort = 0
+
+-- how many values a finite type has
+abbrev pub count_of : CType → ℕ
+count_of = fold-CType ℕ count_step
+
+-- a leaf of a type: a string, or a parameter with its values in order
+pub data Leaf : Type 0 where
+  string_leaf : Leaf
+  parameter_leaf : List Param → Leaf
+
+-- a leaf with the way to it
+pub record LeafAt : Type 0 where
+  pub steps : List PathStep
+  pub leaf : Leaf
+
+-- a step before the way
+abbrev pub below : PathStep → LeafAt → LeafAt
+below step c = record { steps = step ∷ c.steps; leaf = c.leaf }
+
+-- the values of a type beside its leaves
+pub record Parts : Type 0 where
+  pub values : List Param
+  pub leaves : List LeafAt
+
+-- the values of a layer's type
+abbrev pub layer_values : CType-F Parts → List Param
+layer_values d = values_step (map-CType Parts (List Param) (λ p. p.values) d)
+
+-- one leaf, at the type itself
+abbrev pub one_leaf : Leaf → List LeafAt
+one_leaf leaf = record { steps = []; leaf = leaf } ∷ []
+
+-- the leaves of a layer's type, from the parts of its parts
+abbrev pub leaves_step : CType-F Parts → List LeafAt
+leaves_step CType-F.Str = one_leaf string_leaf
+leaves_step (CType-F.Param w cs) = one_leaf (parameter_leaf (layer_values (CType-F.Param w cs)))
+leaves_step (CType-F.Ints n) = one_leaf (parameter_leaf (layer_values (CType-F.Ints n)))
+leaves_step (CType-F.Record fs) = flat_map (λ f. map (below (Label f.0)) f.1.leaves) fs
+leaves_step (CType-F.Table P V) = flat_map (λ v. map (below (Cell v)) V.leaves) P.values
+leaves_step (CType-F.Fun A B) = []
+leaves_step CType-F.TypeSort = []
+leaves_step CType-F.ParamSort = []
+
+abbrev pub parts_of : CType → Parts
+parts_of = fold-CType Parts (λ d. record { values = layer_values d; leaves = leaves_step d })
+
+-- the cells of a type: its leaves, labels in byte order, tables in the order of their values
+abbrev pub cells_of_type : CType → List LeafAt
+cells_of_type T = (parts_of T).leaves
+
+-- the values of a leaf that is a parameter
+abbrev pub leaf_values : LeafAt → List (List Param)
+leaf_values c = elim c.leaf [ string_leaf ↦ [] | parameter_leaf vs ↦ vs ∷ [] ]
+
+-- the cases of a type in order: one value for each parameter cell, the first cell counting most
+abbrev pub cases_of : CType → List (List Param)
+cases_of T = choices (flat_map leaf_values (cells_of_type T))
+
+-- the ways to the string cells of a type, in order
+abbrev pub string_cells : CType → List (List PathStep)
+string_cells T = flat_map (λ c. elim c.leaf [ string_leaf ↦ c.steps ∷ [] | parameter_leaf vs ↦ [] ]) (cells_of_type T)
+
+-- a field of a record or of a record type: the first with that label
+abbrev pub field_of : {A : Type 0} → List ℕ → List (List ℕ × A) → Option A
+field_of l [] = None
+field_of l (f ∷ fs) = if bytes_eq l f.0 then Some f.1 else field_of l fs
+
+mutual
+  -- S is a subtype of T
+  pub data IsSubtype : CType → CType → Type 0 where
+    equal : {S : CType} → IsSubtype S S
+    fewer_labels : {S T : CType} {fs gs : List (List ℕ × CType)} → out-CType S ≡ CType-F.Record fs →
+        out-CType T ≡ CType-F.Record gs → HasLabels fs gs → IsSubtype S T
+    tables : {S T P V W : CType} → out-CType S ≡ CType-F.Table P V → out-CType T ≡ CType-F.Table P W →
+        IsSubtype V W → IsSubtype S T
+    numbers : {S T : CType} {m n : ℕ} → out-CType S ≡ CType-F.Ints m → out-CType T ≡ CType-F.Ints n →
+        m ≤ n → IsSubtype S T
+    functions : {S T A B C D : CType} → out-CType S ≡ CType-F.Fun A B →
+        out-CType T ≡ CType-F.Fun C D → IsSubtype C A → IsSubtype B D → IsSubtype S T
+
+  -- the fields have each label of the others, at a subtype
+  pub data HasLabels : List (List ℕ × CType) → List (List ℕ × CType) → Type 0 where
+    no_label : {fs : List (List ℕ × CType)} → HasLabels fs []
+    label : {fs gs : List (List ℕ × CType)} {l : List ℕ} {S T : CType} → field_of l fs ≡ Some S →
+        IsSubtype S T → HasLabels fs gs → HasLabels fs ((l, T) ∷ gs)

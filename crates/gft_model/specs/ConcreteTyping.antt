@@ -1,0 +1,488 @@
+-- Concrete typing: which terms are types, which types are found for terms and which terms fit a
+-- given type, each with the typed term that says what the term means.
+use Rattle.std.specs.Prelude.{◌≡◌, ℕ, suc, ◌+◌, ◌≤◌, List, [], ◌∷◌, ◌++◌, map, reverse, length, ◌⊎◌, Option, Some, None, All, IsTrue, Bool, true, false, ◌&&◌, bytes_eq, if◌then◌else◌, slice_get}
+use Rattle.std.specs.List.{list_any}
+use Rattle.gft_core.specs.Words.{words_of}
+use Rattle.gft_core.specs.declared.place.Place.{Place}
+use Rattle.gft_syntax.specs.declared.bind.Bind.{Bind}
+use Rattle.gft_syntax.specs.declared.ctype.CType.{CType, out-CType}
+use Rattle.gft_syntax.specs.declared.ctype.CType.TheOpen as CType-F
+use Rattle.gft_syntax.specs.declared.judgement.Constructor.{Constructor}
+use Rattle.gft_syntax.specs.declared.judgement.Context.{Context}
+use Rattle.gft_syntax.specs.declared.linear.Branches.TheVariants.{Matched, Listed}
+use Rattle.gft_syntax.specs.declared.linear.LinTerm.{LinTerm}
+use Rattle.gft_syntax.specs.declared.linear.LinTerm.TheOpen as Lin-F
+use Rattle.gft_syntax.specs.declared.linear.Predef.{Predef}
+use Rattle.gft_syntax.specs.declared.pattern.Pattern.{Pattern}
+use Rattle.gft_syntax.specs.declared.reference.Whole.{Whole}
+use Rattle.gft_syntax.specs.declared.reference.Reference.TheVariants.{Written, Whole as WholeName}
+use Rattle.gft_syntax.specs.declared.term.Case.{Case}
+use Rattle.gft_syntax.specs.declared.term.Local.{Local}
+use Rattle.gft_syntax.specs.declared.term.Local.TheVariants.{Value, Label, TypedValue}
+use Rattle.gft_syntax.specs.declared.term.Sort.TheVariants as Sort-V
+use Rattle.gft_syntax.specs.declared.term.Term.{Term, out-Term}
+use Rattle.gft_syntax.specs.declared.term.Term.TheOpen as Term-F
+use Rattle.gft_syntax.specs.Terms.{Layer}
+use Rattle.gft_model.specs.ConcreteTypes.{field_of, is_finite, count_of, values_of, IsSubtype}
+use Rattle.gft_model.specs.Items.{Item, parameter_type, bare_parameter, oper, alternative, lincat, lin, lindef, linref}
+use Rattle.gft_model.specs.Matching.{same_whole, parameter, match_of, is_matched}
+use Rattle.gft_model.specs.PatternTyping.{Scope, PatternFits, Constructs}
+use Rattle.gft_model.specs.TypeForms.{str_type, number_type, record_type, table_type, functions, sort_type, sort_param, tuple_fields, tuple_locals, made, no_value, bound, with_bound, bound_pattern, constructor_term, predef_type, predef_term, predef_named}
+use Rattle.gft_model.specs.Values.{extended}
+
+-- a type of data: no function type. Functions stand nowhere else but in opers and what they give
+abbrev pub IsData : CType → Type 0
+IsData T = (A B : CType) → ¬ (out-CType T ≡ CType-F.Fun A B)
+
+-- a type is used only with at most so many values
+abbrev pub most_values : ℕ
+most_values = 4096
+
+-- a type that a table may be over
+abbrev pub IsDomain : CType → Type 0
+IsDomain P = (is_finite P ≡ true) × (count_of P ≤ most_values)
+
+-- each value of the type is matched by some pattern
+abbrev pub Covers : CType → List Pattern → Type 0
+Covers P ps = All (λ v. IsTrue (list_any (λ p. is_matched (match_of p (parameter v))) ps)) (values_of P)
+
+-- what may be selected over directly: a domain whose values are covered, or texts
+abbrev pub IsCovered : CType → List Pattern → Type 0
+IsCovered P ps = (IsDomain P × Covers P ps) ⊎ (P ≡ str_type)
+
+abbrev pub patterns : List (Case Term) → List Pattern
+patterns cs = map (λ c. c.pattern) cs
+
+-- a term of type S where type T is given: as it is, or cut; a term of type PType is a type
+pub data Fits : CType → CType → LinTerm → LinTerm → Type 0 where
+  same : {S : CType} {t : LinTerm} → Fits S S t t
+  cut : {S T : CType} {t : LinTerm} → ¬ (S ≡ T) → IsSubtype S T →
+      Fits S T t (made (Lin-F.Cut t S T))
+  sort : {t : LinTerm} → Fits sort_param sort_type t t
+
+abbrev pub is_record : CType-F.CType-F CType → Bool
+is_record (CType-F.Record fs) = true
+is_record T = false
+
+-- forms that pass a given type on to their parts; every other form is found. Records and tuples do
+-- so where a record type is given, and tables where a table type is
+abbrev pub passes : Layer → CType-F.CType-F CType → Bool
+passes (Term-F.Fun xs e place) T = true
+passes (Term-F.TabFun xs e place) T = true
+passes (Term-F.Let ls e place) T = true
+passes (Term-F.CaseOf e cs place) T = true
+passes (Term-F.Alt a b place) T = true
+passes (Term-F.Variants es place) T = true
+passes (Term-F.TableOf P cs place) T = true
+passes (Term-F.TableList P es place) T = true
+passes (Term-F.Fields ls place) T = is_record T
+passes (Term-F.Tuple es place) T = is_record T
+passes (Term-F.Arrow xs a b place) T = false
+passes (Term-F.TabType a b place) T = false
+passes (Term-F.Concat a b place) T = false
+passes (Term-F.Glue a b place) T = false
+passes (Term-F.Select a b place) T = false
+passes (Term-F.Extend a b place) T = false
+passes (Term-F.Pair a b place) T = false
+passes (Term-F.App f a place) T = false
+passes (Term-F.Proj e x place) T = false
+passes (Term-F.Var r place) T = false
+passes (Term-F.Lit t place) T = false
+passes (Term-F.Num n place) T = false
+passes (Term-F.Empty place) T = false
+passes (Term-F.ListCat r place) T = false
+passes (Term-F.Sort s place) T = false
+passes (Term-F.Typed e t place) T = false
+
+-- a table expression: one that stands on the left of ! is selected from directly
+abbrev pub is_table_expression : Layer → Bool
+is_table_expression (Term-F.TableOf P cs place) = true
+is_table_expression (Term-F.TableList P es place) = true
+is_table_expression d = false
+
+-- a type form: a type by its form alone. Of applications only Ints n is a type, of fields only labels
+abbrev pub is_type_form : Layer → Bool
+is_type_form (Term-F.Sort s place) = true
+is_type_form (Term-F.App f a place) = true
+is_type_form (Term-F.Arrow xs a b place) = true
+is_type_form (Term-F.TabType a b place) = true
+is_type_form (Term-F.Pair a b place) = true
+is_type_form (Term-F.Fields [] place) = false
+is_type_form (Term-F.Fields (l ∷ ls) place) = true
+is_type_form d = false
+
+-- one for each variable; one where none is named
+abbrev pub for_each : {A : Type 0} → List Bind → A → List A
+for_each [] a = a ∷ []
+for_each (x ∷ xs) a = map (λ y. a) (x ∷ xs)
+
+-- the names of one local, the last the nearest
+abbrev pub with_names : List (List ℕ) → CType → Scope → Scope
+with_names xs T Γ = reverse (map (λ x. (x, T)) xs) ++ Γ
+
+abbrev pub with_lets : List (List (List ℕ) × LinTerm) → LinTerm → LinTerm
+with_lets [] t = t
+with_lets (d ∷ ds) t = made (Lin-F.Let d.0 d.1 (with_lets ds t))
+
+-- an application taken apart: its head, which is no application, and its arguments in order
+pub data Spine : Term → List Term → Term → List Term → Type 0 where
+  applied_to : {e f a g : Term} {place : Place} {es bs : List Term} →
+      out-Term e ≡ Term-F.App f a place → Spine f (a ∷ es) g bs → Spine e es g bs
+  at_head : {e : Term} {es : List Term} → ((f a : Term) (place : Place) →
+      ¬ (out-Term e ≡ Term-F.App f a place)) → Spine e es e es
+
+-- what a whole name is in a grammar: a parameter type, one of its constructors, an oper with its number,
+-- its type and its definition, an overload, or nothing
+pub data Standing : Type 0 where
+  a_parameter : List Constructor → Standing
+  a_constructor : Whole → List Constructor → Standing
+  an_oper : ℕ → Option Term → Option Term → Standing
+  an_overload : Standing
+  nothing : Standing
+
+abbrev pub is_constructor : Whole → Whole → List Constructor → Bool
+is_constructor c w cs = bytes_eq c.«module» w.«module» && list_any (λ d. bytes_eq c.name d.name.name) cs
+
+-- the first item of the name, the items being numbered from k on
+abbrev pub standing_from : ℕ → List Item → Whole → Standing
+standing_from k [] w = nothing
+standing_from k (parameter_type v cs ∷ is) w =
+    if same_whole w v then a_parameter cs
+    else if is_constructor w v cs then a_constructor v cs else standing_from (suc k) is w
+standing_from k (bare_parameter v ∷ is) w = standing_from (suc k) is w
+standing_from k (oper v T d ∷ is) w = if same_whole w v then an_oper k T d else standing_from (suc k) is w
+standing_from k (alternative v T d ∷ is) w = if same_whole w v then an_overload else standing_from (suc k) is w
+standing_from k (lincat l v e ∷ is) w = standing_from (suc k) is w
+standing_from k (lin l v e ∷ is) w = standing_from (suc k) is w
+standing_from k (lindef l v e ∷ is) w = standing_from (suc k) is w
+standing_from k (linref l v e ∷ is) w = standing_from (suc k) is w
+
+module _ (items : List Item) where
+  -- the item of that number
+  abbrev pub At : ℕ → Item → Type 0
+  At k i = slice_get items k ≡ Some i
+
+  -- what the whole name is
+  abbrev pub Stands : Whole → Standing → Type 0
+  Stands w s = standing_from 0 items w ≡ s
+
+  mutual
+    -- the term, where a type must stand, is the type
+    pub data IsType : Term → CType → Type 0 where
+      text_type : {e : Term} {place : Place} → out-Term e ≡ Term-F.Sort Sort-V.Str place →
+          IsType e str_type
+      type_of_types : {e : Term} {place : Place} → out-Term e ≡ Term-F.Sort Sort-V.TypeSort place →
+          IsType e sort_type
+      type_of_parameters : {e : Term} {place : Place} →
+          out-Term e ≡ Term-F.Sort Sort-V.ParamSort place → IsType e sort_param
+      numbers_to : {e f a : Term} {n : ℕ} {p q r : Place} → out-Term e ≡ Term-F.App f a p →
+          out-Term f ≡ Term-F.Sort Sort-V.Ints q → out-Term a ≡ Term-F.Num n r → n + 1 ≤ most_values →
+          IsType e (number_type n)
+      labels : {e : Term} {ls : List (Local Term)} {p : Place} {fs : List (List ℕ × CType)} →
+          out-Term e ≡ Term-F.Fields ls p → AreLabels ls fs → IsType e (record_type fs)
+      table_over : {e a b : Term} {p : Place} {P V : CType} → out-Term e ≡ Term-F.TabType a b p →
+          IsType a P → IsDomain P → IsType b V → IsData V → IsType e (table_type P V)
+      function_from : {e a b : Term} {xs : List Bind} {p : Place} {A B : CType} →
+          out-Term e ≡ Term-F.Arrow xs a b p → IsType a A → IsData A → IsType b B →
+          IsType e (functions (for_each xs A) B)
+      pair_of : {e a b : Term} {p : Place} {Ts : List CType} → out-Term e ≡ Term-F.Pair a b p →
+          AreFactors e Ts → IsType e (record_type (tuple_fields 0 Ts))
+      parameters_named : {e : Term} {w : Whole} {p : Place} {T : CType} →
+          out-Term e ≡ Term-F.Var (WholeName w) p → IsParameter w T → count_of T ≤ most_values →
+          IsType e T
+      oper_named : {e D d : Term} {w : Whole} (k : ℕ) {p : Place} {S T : CType} →
+          out-Term e ≡ Term-F.Var (WholeName w) p → Stands w (an_oper k (Some D) (Some d)) →
+          IsType D S → (S ≡ sort_type) ⊎ (S ≡ sort_param) → IsType d T → IsType e T
+      definition_named : {e d : Term} {w : Whole} (k : ℕ) {p : Place} {T : CType} →
+          out-Term e ≡ Term-F.Var (WholeName w) p → Stands w (an_oper k None (Some d)) →
+          ((q : Place) → ¬ (out-Term d ≡ Term-F.Fields [] q)) → IsType d T → IsType e T
+
+    -- w names the parameter type, which has its constructors in order
+    pub data IsParameter : Whole → CType → Type 0 where
+      parameter_of : {w : Whole} {cs : List Constructor} {ds : List (Whole × List CType)} {T : CType} →
+          Stands w (a_parameter cs) → AreConstructors w cs ds → out-CType T ≡ CType-F.Param w ds →
+          IsParameter w T
+
+    pub data AreConstructors : Whole → List Constructor → List (Whole × List CType) → Type 0 where
+      no_constructor : {w : Whole} → AreConstructors w [] []
+      constructor : {w : Whole} {c : Constructor} {cs : List Constructor} {Ts : List CType} {ds : List (Whole × List CType)} →
+          AreArguments c.arguments Ts → AreConstructors w cs ds →
+          AreConstructors w (c ∷ cs) ((record { «module» = w.«module»; name = c.name.name }, Ts) ∷ ds)
+
+    -- the types of a constructor's arguments, which are finite
+    pub data AreArguments : List Context → List CType → Type 0 where
+      no_argument : AreArguments [] []
+      arguments : {c : Context} {cs : List Context} {T : CType} {Ts : List CType} →
+          IsType c.of_type T → is_finite T ≡ true → AreArguments cs Ts →
+          AreArguments (c ∷ cs) (for_each c.binds T ++ Ts)
+
+    -- labels with types of data
+    pub data AreLabels : List (Local Term) → List (List ℕ × CType) → Type 0 where
+      no_label : AreLabels [] []
+      label : {xs : List (List ℕ)} {t : Term} {ls : List (Local Term)} {T : CType} {fs : List (List ℕ × CType)} →
+          IsType t T → IsData T → AreLabels ls fs →
+          AreLabels (Label xs t ∷ ls) (map (λ x. (x, T)) xs ++ fs)
+
+    -- the types of a product; where the left side is a product in turn, its items stay
+    pub data AreFactors : Term → List CType → Type 0 where
+      last_factor : {e : Term} {T : CType} → ((a b : Term) (p : Place) →
+          ¬ (out-Term e ≡ Term-F.Pair a b p)) → IsType e T → IsData T → AreFactors e (T ∷ [])
+      next_factor : {e a b : Term} {p : Place} {Ts : List CType} {T : CType} →
+          out-Term e ≡ Term-F.Pair a b p → AreFactors a Ts → IsType b T → IsData T →
+          AreFactors e (Ts ++ T ∷ [])
+
+  -- a function that takes as many arguments of these types as it has parameters
+  pub data Takes : CType → LinTerm → List CType → List LinTerm → CType → LinTerm → Type 0 where
+    takes_none : {R : CType} {t : LinTerm} → IsData R → Takes R t [] [] R t
+    takes : {F A B S R : CType} {Ss : List CType} {t u v w : LinTerm} {us : List LinTerm} →
+        out-CType F ≡ CType-F.Fun A B → Fits S A u v → Takes B (made (Lin-F.App t v)) Ss us R w →
+        Takes F t (S ∷ Ss) (u ∷ us) R w
+
+  -- the alternative of that number takes the arguments
+  pub record Suits (w : Whole) (As : List CType) (us : List LinTerm) (k : ℕ) (R : CType) (u : LinTerm) : Type 0 where
+    pub written : Term
+    pub definition : Term
+    pub its_type : CType
+    pub stands : At k (alternative w written definition)
+    pub is_type : IsType written its_type
+    pub taken : Takes its_type (made (Lin-F.Oper k)) As us R u
+
+  -- it is the only one
+  pub record Chosen (w : Whole) (As : List CType) (us : List LinTerm) (k : ℕ) (R : CType) (u : LinTerm) : Type 0 where
+    pub suits : Suits w As us k R u
+    pub alone : (j : ℕ) (S : CType) (v : LinTerm) → Suits w As us j S v → j ≡ k
+
+  -- a head that is applied as it is found: no overload, and not Ints
+  pub record IsHead (f : Term) : Type 0 where
+    pub not_overloaded : (w : Whole) (p : Place) → out-Term f ≡ Term-F.Var (WholeName w) p →
+        ¬ (Stands w an_overload)
+    pub not_ints : (p : Place) → ¬ (out-Term f ≡ Term-F.Sort Sort-V.Ints p)
+
+  mutual
+    -- the term has the type where none is given, and means the typed term
+    pub data Finds : Scope → Term → CType → LinTerm → Type 0 where
+      variable : {Γ : Scope} {e : Term} {x : List ℕ} {p : Place} {T : CType} →
+          out-Term e ≡ Term-F.Var (Written x) p → field_of x Γ ≡ Some T →
+          Finds Γ e T (made (Lin-F.Var x))
+      constructor_name : {Γ : Scope} {e : Term} {w c : Whole} {cs : List Constructor} {p : Place} {Ts : List CType} {T : CType} →
+          out-Term e ≡ Term-F.Var (WholeName c) p → Stands c (a_constructor w cs) → IsParameter w T →
+          Constructs c Ts T → Finds Γ e (functions Ts T) (constructor_term Ts c)
+      typed_oper : {Γ : Scope} {e D : Term} {d : Option Term} {w : Whole} (k : ℕ) {p : Place} {T : CType} →
+          out-Term e ≡ Term-F.Var (WholeName w) p → Stands w (an_oper k (Some D) d) → IsType D T →
+          Finds Γ e T (made (Lin-F.Oper k))
+      untyped_oper : {Γ : Scope} {e d : Term} {w : Whole} (k : ℕ) {p : Place} {T : CType} {t : LinTerm} →
+          out-Term e ≡ Term-F.Var (WholeName w) p → Stands w (an_oper k None (Some d)) →
+          Finds [] d T t → Finds Γ e T (made (Lin-F.Oper k))
+      alternative_alone : {Γ : Scope} {e : Term} {w : Whole} (k : ℕ) {p : Place} {R : CType} {t : LinTerm} →
+          out-Term e ≡ Term-F.Var (WholeName w) p → Stands w an_overload → Chosen w [] [] k R t →
+          Finds Γ e R t
+      parameter_name : {Γ : Scope} {e : Term} {w : Whole} {p : Place} {T : CType} →
+          out-Term e ≡ Term-F.Var (WholeName w) p → IsParameter w T → Finds Γ e sort_type no_value
+      type_form : {Γ : Scope} {e : Term} {T : CType} → is_type_form (out-Term e) ≡ true → IsType e T →
+          Finds Γ e sort_type no_value
+      literal : {Γ : Scope} {e : Term} {text : List ℕ} {p : Place} → out-Term e ≡ Term-F.Lit text p →
+          Finds Γ e str_type (made (Lin-F.Words (words_of text)))
+      no_words : {Γ : Scope} {e : Term} {p : Place} → out-Term e ≡ Term-F.Empty p →
+          Finds Γ e str_type (made (Lin-F.Words []))
+      append : {Γ : Scope} {e a b : Term} {p : Place} {t u : LinTerm} →
+          out-Term e ≡ Term-F.Concat a b p → Checks Γ a str_type t → Checks Γ b str_type u →
+          Finds Γ e str_type (made (Lin-F.Concat t u))
+      glue : {Γ : Scope} {e a b : Term} {p : Place} {t u : LinTerm} → out-Term e ≡ Term-F.Glue a b p →
+          Checks Γ a str_type t → Checks Γ b str_type u →
+          Finds Γ e str_type (made (Lin-F.Glue t u p))
+      number : {Γ : Scope} {e : Term} {n : ℕ} {p : Place} → out-Term e ≡ Term-F.Num n p →
+          Finds Γ e (number_type n) (made (Lin-F.Num n))
+      predef : {Γ : Scope} {e f : Term} {x : List ℕ} {p q : Place} {r : Predef} →
+          out-Term e ≡ Term-F.Proj f x p → out-Term f ≡ Term-F.Sort Sort-V.Predef q →
+          predef_named x ≡ Some r → Finds Γ e predef_type (predef_term r p)
+      projection : {Γ : Scope} {e r : Term} {x : List ℕ} {p : Place} {R T : CType} {fs : List (List ℕ × CType)} {t : LinTerm} →
+          out-Term e ≡ Term-F.Proj r x p → ((q : Place) →
+          ¬ (out-Term r ≡ Term-F.Sort Sort-V.Predef q)) → Finds Γ r R t →
+          out-CType R ≡ CType-F.Record fs → field_of x fs ≡ Some T →
+          Finds Γ e T (made (Lin-F.Proj t x))
+      application : {Γ : Scope} {e f a : Term} {es : List Term} {F R : CType} {t u : LinTerm} →
+          Spine e [] f (a ∷ es) → Finds Γ f F t → IsHead f → ChecksArguments Γ F t (a ∷ es) R u →
+          Finds Γ e R u
+      overloaded : {Γ : Scope} {e f a : Term} {es : List Term} {w : Whole} (k : ℕ) {p : Place} {As : List CType} {us : List LinTerm} {R : CType} {u : LinTerm} →
+          Spine e [] f (a ∷ es) → out-Term f ≡ Term-F.Var (WholeName w) p → Stands w an_overload →
+          FindsAll Γ (a ∷ es) As us → Chosen w As us k R u → Finds Γ e R u
+      selection : {Γ : Scope} {e a b : Term} {p : Place} {S P V : CType} {t u : LinTerm} →
+          out-Term e ≡ Term-F.Select a b p → is_table_expression (out-Term a) ≡ false →
+          Finds Γ a S t → out-CType S ≡ CType-F.Table P V → Checks Γ b P u →
+          Finds Γ e V (made (Lin-F.Select t u))
+      branch_over : {Γ : Scope} {e a b P : Term} {cs : List (Case Term)} {p q : Place} {S V : CType} {u : LinTerm} {bs : List (Pattern × LinTerm)} →
+          out-Term e ≡ Term-F.Select a b p → out-Term a ≡ Term-F.TableOf (Some P) cs q → IsType P S →
+          BranchesFind Γ S cs V bs → IsCovered S (patterns cs) → Checks Γ b S u →
+          Finds Γ e V (made (Lin-F.Case u (Matched bs) p))
+      branch_of : {Γ : Scope} {e a b : Term} {cs : List (Case Term)} {p q : Place} {S V : CType} {u : LinTerm} {bs : List (Pattern × LinTerm)} →
+          out-Term e ≡ Term-F.Select a b p → out-Term a ≡ Term-F.TableOf None cs q → Finds Γ b S u →
+          BranchesFind Γ S cs V bs → IsCovered S (patterns cs) →
+          Finds Γ e V (made (Lin-F.Case u (Matched bs) p))
+      item_of : {Γ : Scope} {e a b P : Term} {es : List Term} {p q : Place} {S V : CType} {u : LinTerm} {ts : List LinTerm} →
+          out-Term e ≡ Term-F.Select a b p → out-Term a ≡ Term-F.TableList P es q → IsType P S →
+          IsDomain S → MembersFind Γ es V ts → count_of S ≤ length es → Checks Γ b S u →
+          Finds Γ e V (made (Lin-F.Case u (Listed S ts) p))
+      case_found : {Γ : Scope} {e b : Term} {cs : List (Case Term)} {p : Place} {S V : CType} {u : LinTerm} {bs : List (Pattern × LinTerm)} →
+          out-Term e ≡ Term-F.CaseOf b cs p → Finds Γ b S u → BranchesFind Γ S cs V bs →
+          IsCovered S (patterns cs) → Finds Γ e V (made (Lin-F.Case u (Matched bs) p))
+      table_found : {Γ : Scope} {e P : Term} {cs : List (Case Term)} {p : Place} {S V : CType} {bs : List (Pattern × LinTerm)} →
+          out-Term e ≡ Term-F.TableOf (Some P) cs p → IsType P S → IsDomain S →
+          BranchesFind Γ S cs V bs → Covers S (patterns cs) →
+          Finds Γ e (table_type S V) (made (Lin-F.Table S (Matched bs)))
+      list_found : {Γ : Scope} {e P : Term} {es : List Term} {p : Place} {S V : CType} {ts : List LinTerm} →
+          out-Term e ≡ Term-F.TableList P es p → IsType P S → IsDomain S → MembersFind Γ es V ts →
+          count_of S ≤ length es → Finds Γ e (table_type S V) (made (Lin-F.Table S (Listed S ts)))
+      record_found : {Γ : Scope} {e : Term} {ls : List (Local Term)} {p : Place} {fs : List (List ℕ × CType)} {ts : List (List ℕ × LinTerm)} →
+          out-Term e ≡ Term-F.Fields ls p → FieldsHave Γ [] ls fs ts →
+          Finds Γ e (record_type fs) (made (Lin-F.Record ts))
+      tuple_found : {Γ : Scope} {e : Term} {es : List Term} {p : Place} {fs : List (List ℕ × CType)} {ts : List (List ℕ × LinTerm)} →
+          out-Term e ≡ Term-F.Tuple es p → FieldsHave Γ [] (tuple_locals 0 es) fs ts →
+          Finds Γ e (record_type fs) (made (Lin-F.Record ts))
+      extension : {Γ : Scope} {e a b : Term} {p : Place} {S T : CType} {fs gs : List (List ℕ × CType)} {t u : LinTerm} →
+          out-Term e ≡ Term-F.Extend a b p → Finds Γ a S t → out-CType S ≡ CType-F.Record fs →
+          Finds Γ b T u → out-CType T ≡ CType-F.Record gs →
+          Finds Γ e (record_type (extended fs gs)) (made (Lin-F.Extend t u))
+      typed : {Γ : Scope} {e a b : Term} {p : Place} {T : CType} {t : LinTerm} →
+          out-Term e ≡ Term-F.Typed a b p → IsType b T → Checks Γ a T t → Finds Γ e T t
+      let_found : {Γ Δ : Scope} {e b : Term} {ls : List (Local Term)} {p : Place} {ds : List (List (List ℕ) × LinTerm)} {T : CType} {t : LinTerm} →
+          out-Term e ≡ Term-F.Let ls b p → Defines Γ ls Δ ds → Finds Δ b T t →
+          Finds Γ e T (with_lets ds t)
+      alternatives_found : {Γ : Scope} {e a b : Term} {p : Place} {T : CType} {ts : List LinTerm} →
+          out-Term e ≡ Term-F.Alt a b p → MembersFind Γ (a ∷ b ∷ []) T ts →
+          Finds Γ e T (made (Lin-F.Variants ts))
+      variants_found : {Γ : Scope} {e : Term} {es : List Term} {p : Place} {T : CType} {ts : List LinTerm} →
+          out-Term e ≡ Term-F.Variants es p → MembersFind Γ es T ts →
+          Finds Γ e T (made (Lin-F.Variants ts))
+
+    -- the term fits the given type, and means the typed term
+    pub data Checks : Scope → Term → CType → LinTerm → Type 0 where
+      lambda : {Γ : Scope} {e b : Term} {xs : List Bind} {p : Place} {T : CType} {t : LinTerm} →
+          out-Term e ≡ Term-F.Fun xs b p → ChecksLambda Γ xs b T t → Checks Γ e T t
+      table_lambda : {Γ : Scope} {e b : Term} {xs : List Bind} {p : Place} {T : CType} {t : LinTerm} →
+          out-Term e ≡ Term-F.TabFun xs b p → ChecksTable Γ xs b T t → Checks Γ e T t
+      branches : {Γ : Scope} {e : Term} {cs : List (Case Term)} {p : Place} {T P V : CType} {bs : List (Pattern × LinTerm)} →
+          out-Term e ≡ Term-F.TableOf None cs p → out-CType T ≡ CType-F.Table P V →
+          BranchesCheck Γ P cs V bs → Covers P (patterns cs) →
+          Checks Γ e T (made (Lin-F.Table P (Matched bs)))
+      branches_over : {Γ : Scope} {e D : Term} {cs : List (Case Term)} {p : Place} {T P V : CType} {bs : List (Pattern × LinTerm)} →
+          out-Term e ≡ Term-F.TableOf (Some D) cs p → out-CType T ≡ CType-F.Table P V → IsType D P →
+          BranchesCheck Γ P cs V bs → Covers P (patterns cs) →
+          Checks Γ e T (made (Lin-F.Table P (Matched bs)))
+      listed : {Γ : Scope} {e D : Term} {es : List Term} {p : Place} {T P V : CType} {ts : List LinTerm} →
+          out-Term e ≡ Term-F.TableList D es p → out-CType T ≡ CType-F.Table P V → IsType D P →
+          MembersCheck Γ es V ts → count_of P ≤ length es →
+          Checks Γ e T (made (Lin-F.Table P (Listed P ts)))
+      record_given : {Γ : Scope} {e : Term} {ls : List (Local Term)} {p : Place} {T : CType} {fs gs : List (List ℕ × CType)} {ts : List (List ℕ × LinTerm)} {t : LinTerm} →
+          out-Term e ≡ Term-F.Fields ls p → out-CType T ≡ CType-F.Record gs →
+          FieldsHave Γ gs ls fs ts → Fits (record_type fs) T (made (Lin-F.Record ts)) t →
+          Checks Γ e T t
+      tuple_given : {Γ : Scope} {e : Term} {es : List Term} {p : Place} {T : CType} {fs gs : List (List ℕ × CType)} {ts : List (List ℕ × LinTerm)} {t : LinTerm} →
+          out-Term e ≡ Term-F.Tuple es p → out-CType T ≡ CType-F.Record gs →
+          FieldsHave Γ gs (tuple_locals 0 es) fs ts →
+          Fits (record_type fs) T (made (Lin-F.Record ts)) t → Checks Γ e T t
+      let_given : {Γ Δ : Scope} {e b : Term} {ls : List (Local Term)} {p : Place} {ds : List (List (List ℕ) × LinTerm)} {T : CType} {t : LinTerm} →
+          out-Term e ≡ Term-F.Let ls b p → Defines Γ ls Δ ds → Checks Δ b T t →
+          Checks Γ e T (with_lets ds t)
+      case_given : {Γ : Scope} {e b : Term} {cs : List (Case Term)} {p : Place} {S T : CType} {u : LinTerm} {bs : List (Pattern × LinTerm)} →
+          out-Term e ≡ Term-F.CaseOf b cs p → Finds Γ b S u → BranchesCheck Γ S cs T bs →
+          IsCovered S (patterns cs) → Checks Γ e T (made (Lin-F.Case u (Matched bs) p))
+      alternatives_given : {Γ : Scope} {e a b : Term} {p : Place} {T : CType} {ts : List LinTerm} →
+          out-Term e ≡ Term-F.Alt a b p → MembersCheck Γ (a ∷ b ∷ []) T ts →
+          Checks Γ e T (made (Lin-F.Variants ts))
+      variants_given : {Γ : Scope} {e : Term} {es : List Term} {p : Place} {T : CType} {ts : List LinTerm} →
+          out-Term e ≡ Term-F.Variants es p → MembersCheck Γ es T ts →
+          Checks Γ e T (made (Lin-F.Variants ts))
+      empty_type : {Γ : Scope} {e : Term} {p : Place} → out-Term e ≡ Term-F.Fields [] p →
+          Checks Γ e sort_type no_value
+      parameter_given : {Γ : Scope} {e : Term} {w : Whole} {p : Place} {T : CType} →
+          out-Term e ≡ Term-F.Var (WholeName w) p → IsParameter w T → Checks Γ e sort_param no_value
+      found : {Γ : Scope} {e : Term} {S T : CType} {t u : LinTerm} →
+          passes (out-Term e) (out-CType T) ≡ false → Finds Γ e S t → Fits S T t u → Checks Γ e T u
+
+    -- a lambda of several variables is one in another
+    pub data ChecksLambda : Scope → List Bind → Term → CType → LinTerm → Type 0 where
+      body : {Γ : Scope} {b : Term} {T : CType} {t : LinTerm} → Checks Γ b T t →
+          ChecksLambda Γ [] b T t
+      binds : {Γ : Scope} {x : Bind} {xs : List Bind} {b : Term} {T A B : CType} {t : LinTerm} →
+          out-CType T ≡ CType-F.Fun A B → ChecksLambda (with_bound x A Γ) xs b B t →
+          ChecksLambda Γ (x ∷ xs) b T (made (Lin-F.Lambda (bound x) t))
+
+    -- \\x => e is the table of the one branch x => e
+    pub data ChecksTable : Scope → List Bind → Term → CType → LinTerm → Type 0 where
+      cell : {Γ : Scope} {b : Term} {T : CType} {t : LinTerm} → Checks Γ b T t →
+          ChecksTable Γ [] b T t
+      over : {Γ : Scope} {x : Bind} {xs : List Bind} {b : Term} {T P V : CType} {t : LinTerm} →
+          out-CType T ≡ CType-F.Table P V → ChecksTable (with_bound x P Γ) xs b V t →
+          ChecksTable Γ (x ∷ xs) b T (made (Lin-F.Table P (Matched ((bound_pattern x, t) ∷ []))))
+
+    -- the arguments of a function, one after the other
+    pub data ChecksArguments : Scope → CType → LinTerm → List Term → CType → LinTerm → Type 0 where
+      no_argument_left : {Γ : Scope} {T : CType} {t : LinTerm} → ChecksArguments Γ T t [] T t
+      next_argument : {Γ : Scope} {F A B R : CType} {t u v : LinTerm} {a : Term} {es : List Term} →
+          out-CType F ≡ CType-F.Fun A B → Checks Γ a A u →
+          ChecksArguments Γ B (made (Lin-F.App t u)) es R v → ChecksArguments Γ F t (a ∷ es) R v
+
+    -- terms with the types that are found for them
+    pub data FindsAll : Scope → List Term → List CType → List LinTerm → Type 0 where
+      none_found : {Γ : Scope} → FindsAll Γ [] [] []
+      next_found : {Γ : Scope} {e : Term} {es : List Term} {T : CType} {Ts : List CType} {t : LinTerm} {ts : List LinTerm} →
+          Finds Γ e T t → FindsAll Γ es Ts ts → FindsAll Γ (e ∷ es) (T ∷ Ts) (t ∷ ts)
+
+    -- members of data: the type of the first is found, and the others are given it
+    pub data MembersFind : Scope → List Term → CType → List LinTerm → Type 0 where
+      first_member : {Γ : Scope} {e : Term} {es : List Term} {T : CType} {t : LinTerm} {ts : List LinTerm} →
+          Finds Γ e T t → IsData T → MembersCheck Γ es T ts → MembersFind Γ (e ∷ es) T (t ∷ ts)
+
+    pub data MembersCheck : Scope → List Term → CType → List LinTerm → Type 0 where
+      no_member : {Γ : Scope} {T : CType} → MembersCheck Γ [] T []
+      member : {Γ : Scope} {e : Term} {es : List Term} {T : CType} {t : LinTerm} {ts : List LinTerm} →
+          Checks Γ e T t → IsData T → MembersCheck Γ es T ts → MembersCheck Γ (e ∷ es) T (t ∷ ts)
+
+    -- branches in the same way, each under its pattern's variables
+    pub data BranchesFind : Scope → CType → List (Case Term) → CType → List (Pattern × LinTerm) →
+        Type 0 where
+      first_branch : {Γ Δ : Scope} {P V : CType} {c : Case Term} {cs : List (Case Term)} {t : LinTerm} {bs : List (Pattern × LinTerm)} →
+          PatternFits P c.pattern Δ → Finds (Δ ++ Γ) c.body V t → IsData V →
+          BranchesCheck Γ P cs V bs → BranchesFind Γ P (c ∷ cs) V ((c.pattern, t) ∷ bs)
+
+    pub data BranchesCheck : Scope → CType → List (Case Term) → CType → List (Pattern × LinTerm) →
+        Type 0 where
+      no_branch : {Γ : Scope} {P V : CType} → BranchesCheck Γ P [] V []
+      branch : {Γ Δ : Scope} {P V : CType} {c : Case Term} {cs : List (Case Term)} {t : LinTerm} {bs : List (Pattern × LinTerm)} →
+          PatternFits P c.pattern Δ → Checks (Δ ++ Γ) c.body V t → IsData V →
+          BranchesCheck Γ P cs V bs → BranchesCheck Γ P (c ∷ cs) V ((c.pattern, t) ∷ bs)
+
+    -- fields of data as written, label by label: one whose label has a given type is given it, one with
+    -- a type of its own is given that, and every other is found
+    pub data FieldsHave : Scope → List (List ℕ × CType) → List (Local Term) → List (List ℕ × CType) →
+        List (List ℕ × LinTerm) → Type 0 where
+      no_field : {Γ : Scope} {gs : List (List ℕ × CType)} → FieldsHave Γ gs [] [] []
+      value_done : {Γ : Scope} {gs fs : List (List ℕ × CType)} {e : Term} {ls : List (Local Term)} {ts : List (List ℕ × LinTerm)} →
+          FieldsHave Γ gs ls fs ts → FieldsHave Γ gs (Value [] e ∷ ls) fs ts
+      value_given : {Γ : Scope} {gs fs : List (List ℕ × CType)} {x : List ℕ} {xs : List (List ℕ)} {e : Term} {ls : List (Local Term)} {ts : List (List ℕ × LinTerm)} {T : CType} {t : LinTerm} →
+          field_of x gs ≡ Some T → Checks Γ e T t → FieldsHave Γ gs (Value xs e ∷ ls) fs ts →
+          FieldsHave Γ gs (Value (x ∷ xs) e ∷ ls) ((x, T) ∷ fs) ((x, t) ∷ ts)
+      value_found : {Γ : Scope} {gs fs : List (List ℕ × CType)} {x : List ℕ} {xs : List (List ℕ)} {e : Term} {ls : List (Local Term)} {ts : List (List ℕ × LinTerm)} {T : CType} {t : LinTerm} →
+          field_of x gs ≡ None → Finds Γ e T t → IsData T → FieldsHave Γ gs (Value xs e ∷ ls) fs ts →
+          FieldsHave Γ gs (Value (x ∷ xs) e ∷ ls) ((x, T) ∷ fs) ((x, t) ∷ ts)
+      typed_done : {Γ : Scope} {gs fs : List (List ℕ × CType)} {e D : Term} {ls : List (Local Term)} {ts : List (List ℕ × LinTerm)} →
+          FieldsHave Γ gs ls fs ts → FieldsHave Γ gs (TypedValue [] D e ∷ ls) fs ts
+      typed_given : {Γ : Scope} {gs fs : List (List ℕ × CType)} {x : List ℕ} {xs : List (List ℕ)} {e D : Term} {ls : List (Local Term)} {ts : List (List ℕ × LinTerm)} {S T : CType} {t u : LinTerm} →
+          field_of x gs ≡ Some T → IsType D S → Checks Γ e S t → Fits S T t u →
+          FieldsHave Γ gs (TypedValue xs D e ∷ ls) fs ts →
+          FieldsHave Γ gs (TypedValue (x ∷ xs) D e ∷ ls) ((x, T) ∷ fs) ((x, u) ∷ ts)
+      typed_alone : {Γ : Scope} {gs fs : List (List ℕ × CType)} {x : List ℕ} {xs : List (List ℕ)} {e D : Term} {ls : List (Local Term)} {ts : List (List ℕ × LinTerm)} {S : CType} {t : LinTerm} →
+          field_of x gs ≡ None → IsType D S → IsData S → Checks Γ e S t →
+          FieldsHave Γ gs (TypedValue xs D e ∷ ls) fs ts →
+          FieldsHave Γ gs (TypedValue (x ∷ xs) D e ∷ ls) ((x, S) ∷ fs) ((x, t) ∷ ts)
+
+    -- locals of data, each seeing those before it; the names of one do not see each other
+    pub data Defines : Scope → List (Local Term) → Scope → List (List (List ℕ) × LinTerm) →
+        Type 0 where
+      no_local : {Γ : Scope} → Defines Γ [] Γ []
+      local : {Γ Δ : Scope} {xs : List (List ℕ)} {e : Term} {ls : List (Local Term)} {ds : List (List (List ℕ) × LinTerm)} {T : CType} {t : LinTerm} →
+          Finds Γ e T t → IsData T → Defines (with_names xs T Γ) ls Δ ds →
+          Defines Γ (Value xs e ∷ ls) Δ ((xs, t) ∷ ds)
+      typed_local : {Γ Δ : Scope} {xs : List (List ℕ)} {e D : Term} {ls : List (Local Term)} {ds : List (List (List ℕ) × LinTerm)} {T : CType} {t : LinTerm} →
+          IsType D T → IsData T → Checks Γ e T t → Defines (with_names xs T Γ) ls Δ ds →
+          Defines Γ (TypedValue xs D e ∷ ls) Δ ((xs, t) ∷ ds)

@@ -1,0 +1,42 @@
+-- Which runs a packed forest holds.
+use Rattle.std.specs.Prelude.{◌≡◌, ◌≢◌, ℕ, List, [], ◌∷◌, Contains, Option, Some, None, slice_get}
+use Rattle.gft_pmcfg.specs.declared.concrete.Prod.{Prod}
+use Rattle.gft_pmcfg.specs.declared.concrete.Concrete.{Concrete}
+use Rattle.gft_pmcfg.specs.declared.forest.Forest.{Forest}
+use Rattle.gft_pmcfg.specs.declared.forest.Node.{Node}
+use Rattle.gft_pmcfg.specs.declared.forest.Alt.TheVariants as alt
+use Rattle.gft_pmcfg.specs.declared.run.Run.{Run}
+use Rattle.gft_model.specs.Runs.{IsApplied, IsNumber, IsText, IsOpen}
+
+-- the node of a number, with pins
+abbrev pub IsPinned : Forest → ℕ → Node → Type 0
+IsPinned f n node = (slice_get f.nodes n ≡ Some node) × (node.pins ≢ [])
+
+mutual
+  -- the node of the number holds the run
+  pub data HoldsAt (f : Forest) (c : Concrete) : ℕ → Run → Type 0 where
+    unpinned : {n : ℕ} {node : Node} {r : Run} → slice_get f.nodes n ≡ Some node → node.pins ≡ []
+        → IsOpen r node.nonterminal → HoldsAt f c n r
+    number : {n i : ℕ} {node : Node} {r : Run} → IsPinned f n node → Contains node.alts (alt.Int i)
+        → IsNumber r i → HoldsAt f c n r
+    string : {n : ℕ} {w : List ℕ} {node : Node} {r : Run} → IsPinned f n node
+        → Contains node.alts (alt.Str w) → IsText r w → HoldsAt f c n r
+    application : {n p : ℕ} {parts : List (Option ℕ)} {node : Node} {prod : Prod} {r : Run}
+        {rs : List Run} → IsPinned f n node
+        → Contains node.alts (alt.App p parts) → slice_get c.prods p ≡ Some prod → IsApplied r p rs
+        → HoldAll f c parts prod.args rs
+        → HoldsAt f c n r
+
+  -- each part holds its run: a node one that it holds, and no node the hole of the argument's nonterminal
+  pub data HoldAll (f : Forest) (c : Concrete) : List (Option ℕ) → List ℕ → List Run → Type 0 where
+    none : HoldAll f c [] [] []
+    node : {n a : ℕ} {parts : List (Option ℕ)} {args : List ℕ} {r : Run} {rs : List Run}
+        → HoldsAt f c n r → HoldAll f c parts args rs
+        → HoldAll f c (Some n ∷ parts) (a ∷ args) (r ∷ rs)
+    hole : {a : ℕ} {parts : List (Option ℕ)} {args : List ℕ} {r : Run} {rs : List Run} → IsOpen r a
+        → HoldAll f c parts args rs
+        → HoldAll f c (None ∷ parts) (a ∷ args) (r ∷ rs)
+
+-- the forest holds the run: one of its roots does
+abbrev pub Holds : Forest → Concrete → Run → Type 0
+Holds f c r = (n : ℕ) × Contains f.roots n × HoldsAt f c n r

@@ -1,0 +1,87 @@
+-- Laws of the definitions.
+use Rattle.std.specs.Prelude.{◌≡◌, ℕ, List, [], map, Contains, Some, slice_get}
+use Rattle.gft_core.specs.declared.symbol.Sym.{Sym}
+use Rattle.gft_core.specs.declared.tree.Tree.{Tree}
+use Rattle.gft_pmcfg.specs.declared.signature.AType.{AType}
+use Rattle.gft_pmcfg.specs.declared.signature.Abstract.{Abstract}
+use Rattle.gft_pmcfg.specs.declared.signature.Fun.{Fun}
+use Rattle.gft_pmcfg.specs.declared.concrete.Prod.{Prod}
+use Rattle.gft_pmcfg.specs.declared.concrete.Concrete.{Concrete}
+use Rattle.gft_pmcfg.specs.declared.run.Run.{Run}
+use Rattle.gft_model.specs.Trees.{IsClosed, IsInstance}
+use Rattle.gft_model.specs.Typing.{HoleTypes, HasType}
+use Rattle.gft_model.specs.Skeleton.{HoleCategories, HasSkeletonType}
+use Rattle.gft_model.specs.Brackets.{Piece, erased}
+use Rattle.gft_model.specs.Runs.{Strings, IsRun, components_of, yield_of, holes_of, tree_of}
+use Rattle.gft_model.specs.RunStrings.{HasValue, IsBracketedString, IsStringOf}
+use Rattle.gft_model.specs.Cut.{cut_of}
+use Rattle.gft_model.specs.Solutions.{IsSolution}
+use Rattle.gft_model.specs.Listing.{IsListed}
+
+-- the solution of a pattern is unique, the numbers of its holes included
+abbrev pub SolutionIsUnique : Type 0
+SolutionIsUnique = (a : Abstract) (pattern s u : Tree) → IsSolution a pattern s → IsSolution a pattern u
+    → s ≡ u
+
+-- erasing a bracketed string of a tree gives a string of it
+abbrev pub ErasedIsString : Type 0
+ErasedIsString = (a : Abstract) (c : Concrete) (cat : ℕ) (t : Tree) (b : List Piece)
+    → IsBracketedString a c cat t b → IsStringOf a c cat t (erased b)
+
+-- the words that a run yields under a ref are determined
+abbrev pub YieldIsDetermined : Type 0
+YieldIsDetermined = (c : Concrete) (seq : List Sym) (r : Run) (v w : List (List ℕ))
+    → yield_of c seq r ≡ v → yield_of c seq r ≡ w → v ≡ w
+
+-- a run is one to at most one nonterminal
+abbrev pub NonterminalIsDetermined : Type 0
+NonterminalIsDetermined = (c : Concrete) (r : Run) (n m : ℕ) → IsRun c r n → IsRun c r m → n ≡ m
+
+-- the components of a closed tree are those of a run of that tree, to the same nonterminal
+abbrev pub ValueIsOfRun : Type 0
+ValueIsOfRun = (a : Abstract) (c : Concrete) (p : List ℕ) (t : Tree) (n : ℕ) (vs : Strings)
+    → HasValue a c p t n vs → IsClosed t
+    → (r : Run) × IsRun c r n × (tree_of a c r ≡ t) × (components_of c r p ≡ vs)
+
+-- each production is of a function that there is
+abbrev pub AreOfFunctions : Abstract → Concrete → Type 0
+AreOfFunctions a c = (prod : Prod) → Contains c.prods prod → (f : Fun) × (slice_get a.funs prod.fun ≡ Some f)
+
+-- and a run without holes gives its components to its tree
+abbrev pub RunGivesValue : Type 0
+RunGivesValue = (a : Abstract) (c : Concrete) (p : List ℕ) (r : Run) (n : ℕ) → AreOfFunctions a c
+    → IsRun c r n → holes_of r ≡ []
+    → HasValue a c p (tree_of a c r) n (components_of c r p)
+
+-- each hole has one type
+abbrev pub HaveOneType : HoleTypes → Type 0
+HaveOneType T = (k : ℕ) (A B : AType) → Contains T (k, A) → Contains T (k, B) → A ≡ B
+
+-- functions are told apart by their names
+abbrev pub AreNamedApart : List Fun → Type 0
+AreNamedApart fs = (f g : Fun) → Contains fs f → Contains fs g → f.name ≡ g.name → f ≡ g
+
+-- a tree has at most one type
+abbrev pub TypeIsDetermined : Type 0
+TypeIsDetermined = (a : Abstract) (T : HoleTypes) (t : Tree) (A B : AType) → AreNamedApart a.funs
+    → HaveOneType T → HasType a T t A → HasType a T t B → A ≡ B
+
+-- the categories of holes with these types
+abbrev pub categories_under : HoleTypes → HoleCategories
+categories_under T = map (λ (h : ℕ × AType). (h.0, h.1.cat)) T
+
+-- a typed tree has the category of its type as its skeleton type
+abbrev pub TypedHasSkeletonType : Type 0
+TypedHasSkeletonType = (a : Abstract) (T : HoleTypes) (t : Tree) (type : AType) → HasType a T t type
+    → HasSkeletonType a (categories_under T) t type.cat
+
+-- a closed tree is an instance of what a string shows of it
+abbrev pub CutCoversTree : Type 0
+CutCoversTree = (t : Tree) (b : List Piece) → IsClosed t → IsInstance (cut_of t b) t
+
+-- a tree of which a pattern is listed is an instance of that pattern
+abbrev pub ListedCoversTree : Type 0
+ListedCoversTree =
+    (a : Abstract) (c : Concrete) (cat : ℕ) (words : List (List ℕ)) (depth : ℕ) (pattern : Tree)
+    → (listed : IsListed a (IsBracketedString a c cat) cat words depth pattern)
+    → IsInstance pattern listed.tree

@@ -1,0 +1,207 @@
+-- Which judgements a module has, and which a name in it means.
+use Rattle.std.specs.Prelude.{◌≡◌, ℕ, List, [], ◌∷◌, ◌++◌, map, Bool, true, false, not, bytes_eq, codes, Contains, Option, Some, None, slice_get, if◌then◌else◌}
+use Rattle.std.specs.List.{list_any}
+use Rattle.gft_syntax.specs.declared.judgement.Judgement.{Judgement}
+use Rattle.gft_syntax.specs.declared.judgement.Judgement.TheVariants as J
+use Rattle.gft_syntax.specs.declared.module.Body.{Body}
+use Rattle.gft_syntax.specs.declared.module.Header.{Header}
+use Rattle.gft_syntax.specs.declared.module.Header.TheVariants.{Abstract, Resource, Interface, Instance, Concrete, Incomplete}
+use Rattle.gft_syntax.specs.declared.module.Inherited.{Inherited}
+use Rattle.gft_syntax.specs.declared.module.Inherited.TheVariants.{Whole, Only, Except}
+use Rattle.gft_syntax.specs.declared.module.Module.{Module}
+use Rattle.gft_syntax.specs.declared.module.Opened.{Opened}
+use Rattle.gft_syntax.specs.declared.module.Opened.TheVariants.{Plain, Qualified}
+use Rattle.gft_syntax.specs.declared.module.Rest.{Rest}
+use Rattle.gft_syntax.specs.declared.module.Rest.TheVariants.{Own, Inherits, With}
+use Rattle.gft_syntax.specs.declared.module.Substitution.{Substitution}
+use Rattle.gft_syntax.specs.declared.reference.PlacedName.{PlacedName}
+use Rattle.gft_model.specs.JudgementTyping.{list_name}
+
+-- the name of a module
+abbrev pub header_name : Header → PlacedName
+header_name (Abstract n) = n
+header_name (Resource n) = n
+header_name (Interface n) = n
+header_name (Instance n i) = n
+header_name (Concrete n a) = n
+header_name (Incomplete n a) = n
+
+-- the module of that name
+abbrev pub module_named : List Module → List ℕ → Option Module
+module_named [] M = None
+module_named (m ∷ ms) M = if bytes_eq M (header_name m.header).name then Some m else module_named ms M
+
+-- what a module inherits; the functor of a with is none of it
+abbrev pub inherited_of : Rest → List Inherited
+inherited_of (Own hs b) = hs
+inherited_of (Inherits hs) = hs
+inherited_of (With hs f ss b) = hs
+
+-- its body, where it has one
+abbrev pub body_of : Rest → Option Body
+body_of (Own hs b) = Some b
+body_of (Inherits hs) = None
+body_of (With hs f ss b) = b
+
+-- its own judgements and what it opens
+abbrev pub judgements_of : Module → List Judgement
+judgements_of m = elim (body_of m.rest) [ None ↦ [] | Some b ↦ b.judgements ]
+
+abbrev pub opened_of : Module → List Opened
+opened_of m = elim (body_of m.rest) [ None ↦ [] | Some b ↦ b.opened ]
+
+-- the module that is inherited, and whether the restriction lets a name through
+abbrev pub inherited_name : Inherited → List ℕ
+inherited_name (Whole n) = n.name
+inherited_name (Only n xs) = n.name
+inherited_name (Except n xs) = n.name
+
+abbrev pub is_listed : List ℕ → List PlacedName → Bool
+is_listed x ns = list_any (λ n. bytes_eq x n.name) ns
+
+abbrev pub lets_through : Inherited → List ℕ → Bool
+lets_through (Whole n) x = true
+lets_through (Only n xs) x = is_listed x xs
+lets_through (Except n xs) x = not (is_listed x xs)
+
+-- the names that a judgement declares; a flag is no name
+abbrev pub names_of : List PlacedName → List (List ℕ)
+names_of ns = map (λ n. n.name) ns
+
+abbrev pub declared_names : Judgement → List (List ℕ)
+declared_names (J.Cat n cs) = n.name ∷ []
+declared_names (J.ListCat n r k place) =
+    list_name n.name ∷ (codes "Base" ++ n.name) ∷ (codes "Cons" ++ n.name) ∷ []
+declared_names (J.Fun ns T) = names_of ns
+declared_names (J.Flag n v) = []
+declared_names (J.Lincat ns T) = names_of ns
+declared_names (J.Lin ns xs e) = names_of ns
+declared_names (J.Lindef ns xs e) = names_of ns
+declared_names (J.Linref ns xs e) = names_of ns
+declared_names (J.ParamName n) = n.name ∷ []
+declared_names (J.Param n cs) = n.name ∷ map (λ c. c.name.name) cs
+declared_names (J.OperType ns T) = names_of ns
+declared_names (J.OperTyped ns T d) = names_of ns
+declared_names (J.Oper ns xs d) = names_of ns
+
+-- terms name no linearization
+abbrev pub is_nameable : Judgement → Bool
+is_nameable (J.Lincat ns T) = false
+is_nameable (J.Lin ns xs e) = false
+is_nameable (J.Lindef ns xs e) = false
+is_nameable (J.Linref ns xs e) = false
+is_nameable (J.Flag n v) = false
+is_nameable j = true
+
+-- a declaration that leaves the definition to instances
+abbrev pub is_undefined : Judgement → Bool
+is_undefined (J.ParamName n) = true
+is_undefined (J.OperType ns T) = true
+is_undefined j = false
+
+-- the name by which a judgement is kept or replaced: a parameter type with its constructors whole
+abbrev pub main_name : Judgement → List ℕ → List ℕ
+main_name (J.Param n cs) x = n.name
+main_name j x = x
+
+-- a judgement where it stands: judgement k of a module's own, from 0, or the copy that an instance
+-- or a with module makes of one
+pub data Declared : Type 0 where
+  own : List ℕ → ℕ → Declared
+  copy : List ℕ → Declared → Declared
+
+-- the module whose judgement it is
+abbrev pub module_of : Declared → List ℕ
+module_of (own M k) = M
+module_of (copy M d) = M
+
+-- a written name: without or with a module's name before it
+pub data Written : Type 0 where
+  bare : List ℕ → Written
+  qualified : List ℕ → List ℕ → Written
+
+module _ (mods : List Module) where
+  -- the module of the name
+  abbrev pub Is : List ℕ → Module → Type 0
+  Is M m = module_named mods M ≡ Some m
+
+  -- the judgement as it is written
+  pub data Writes : Declared → Judgement → Type 0 where
+    own_text : {M : List ℕ} (k : ℕ) {m : Module} {j : Judgement} →
+        Is M m → slice_get (judgements_of m) k ≡ Some j → Writes (own M k) j
+    copied_text : {M : List ℕ} {d : Declared} {j : Judgement} → Writes d j → Writes (copy M d) j
+
+  -- an own judgement declares the name
+  abbrev pub OwnName : Module → List ℕ → Type 0
+  OwnName m x = (j : Judgement) × Contains (judgements_of m) j × Contains (declared_names j) x
+
+  -- the module has the judgement under the name
+  pub data Has : List ℕ → List ℕ → Declared → Type 0 where
+    declares : {M x : List ℕ} (k : ℕ) {m : Module} {j : Judgement} →
+        Is M m → slice_get (judgements_of m) k ≡ Some j → Contains (declared_names j) x → Has M x (own M k)
+    inherits : {M x : List ℕ} {m : Module} {h : Inherited} {d : Declared} →
+        Is M m → Contains (inherited_of m.rest) h → lets_through h x ≡ true →
+        Has (inherited_name h) x d → Has M x d
+    keeps : {M x : List ℕ} {m : Module} {n i : PlacedName} {d : Declared} {j : Judgement} →
+        Is M m → m.header ≡ Instance n i → Has i.name x d → Writes d j → is_undefined j ≡ false →
+        ¬ (OwnName m (main_name j x)) → Has M x (copy M d)
+    instantiates : {M x : List ℕ} {m : Module} {hs : List Inherited} {f : Inherited}
+        {ss : List Substitution} {b : Option Body} {d : Declared} →
+        Is M m → m.rest ≡ With hs f ss b → lets_through f x ≡ true → Has (inherited_name f) x d →
+        Has M x (copy M d)
+
+  -- the module has a judgement under the name that terms may name
+  pub record HasNameable (M x : List ℕ) (d : Declared) : Type 0 where
+    pub has : Has M x d
+    pub text : Judgement
+    pub writes : Writes d text
+    pub nameable : is_nameable text ≡ true
+
+  -- a module that is opened under a name: an alias, or its own
+  pub data OpensAs : Module → List ℕ → List ℕ → Type 0 where
+    plainly : {m : Module} {n : PlacedName} → Contains (opened_of m) (Plain n) → OpensAs m n.name n.name
+    by_alias : {m : Module} {q n : PlacedName} → Contains (opened_of m) (Qualified q n) → OpensAs m q.name n.name
+    by_name : {m : Module} {q n : PlacedName} → Contains (opened_of m) (Qualified q n) → OpensAs m n.name n.name
+
+  -- what a bare name means in a module, where no local variable has it
+  pub data Sees : List ℕ → List ℕ → Declared → Type 0 where
+    at_home : {M x : List ℕ} {d : Declared} → HasNameable M x d → Sees M x d
+    from_opened : {M x : List ℕ} {m : Module} {n : PlacedName} {d : Declared} →
+        Is M m → ((e : Declared) → ¬ (HasNameable M x e)) → Contains (opened_of m) (Plain n) →
+        HasNameable n.name x d → Sees M x d
+
+  -- what Q.x means in a module, where no local variable is called Q
+  pub data SeesQualified : List ℕ → List ℕ → List ℕ → Declared → Type 0 where
+    from_named : {M Q N x : List ℕ} {m : Module} {d : Declared} →
+        Is M m → OpensAs m Q N → HasNameable N x d → SeesQualified M Q x d
+
+  -- what an instance of a with gives for a constant of its interface: the first whose interface has it
+  pub data Argument : List Substitution → Declared → Declared → Type 0 where
+    here : {s : Substitution} {ss : List Substitution} {y : List ℕ} {d e : Declared} →
+        HasNameable s.interface.name y d → HasNameable s.instance.name y e → Argument (s ∷ ss) d e
+    later : {s : Substitution} {ss : List Substitution} {d e : Declared} →
+        ((y : List ℕ) → ¬ (HasNameable s.interface.name y d)) → Argument ss d e → Argument (s ∷ ss) d e
+
+  -- what stands for a judgement in the copies that a module makes: an instance's own for that of its
+  -- interface; in a with module that of the instance for the interface's, and the copy for the functor's
+  pub data Replaces : List ℕ → Declared → Declared → Type 0 where
+    by_instance : {M y : List ℕ} {m : Module} {n i : PlacedName} {d e : Declared} →
+        Is M m → m.header ≡ Instance n i → HasNameable i.name y d → HasNameable M y e → Replaces M d e
+    by_argument : {M : List ℕ} {m : Module} {hs : List Inherited} {f : Inherited}
+        {ss : List Substitution} {b : Option Body} {d e : Declared} →
+        Is M m → m.rest ≡ With hs f ss b → Argument ss d e → Replaces M d e
+    by_copy : {M y : List ℕ} {m : Module} {hs : List Inherited} {f : Inherited}
+        {ss : List Substitution} {b : Option Body} {d : Declared} →
+        Is M m → m.rest ≡ With hs f ss b → lets_through f y ≡ true →
+        HasNameable (inherited_name f) y d → Replaces M d (copy M d)
+
+  -- what a name in a judgement means: in an own one by the module where it is written, in a copy what
+  -- stands for what it meant, where there is something, and else the same
+  pub data Means : Declared → Written → Declared → Type 0 where
+    own_name : {M x : List ℕ} (k : ℕ) {d : Declared} → Sees M x d → Means (own M k) (bare x) d
+    own_qualified : {M Q x : List ℕ} (k : ℕ) {d : Declared} →
+        SeesQualified M Q x d → Means (own M k) (qualified Q x) d
+    replaced : {M : List ℕ} {j d e : Declared} {w : Written} →
+        Means j w d → Replaces M d e → Means (copy M j) w e
+    remains : {M : List ℕ} {j d : Declared} {w : Written} →
+        Means j w d → ((e : Declared) → ¬ (Replaces M d e)) → Means (copy M j) w d

@@ -1,0 +1,298 @@
+-- The outcomes of a typed term in an environment of values.
+use Rattle.std.specs.Prelude.{ℕ, zero, suc, List, [], ◌∷◌, ◌++◌, map, length, reverse, zip, Option, Some, None, chars, encode_utf8_all, option_and_then, slice_get}
+use Rattle.gft_core.specs.Words.{words_of, joined}
+use Rattle.gft_core.specs.declared.place.Place.{Place}
+use Rattle.gft_core.specs.declared.symbol.Sym.{Sym}
+use Rattle.gft_syntax.specs.declared.ctype.CType.{CType, out-CType}
+use Rattle.gft_syntax.specs.declared.ctype.CType.TheOpen.{CType-F}
+use Rattle.gft_syntax.specs.declared.ctype.CType.TheFolds.{fold-CType, map-CType}
+use Rattle.gft_syntax.specs.declared.linear.Branches.{Branches}
+use Rattle.gft_syntax.specs.declared.linear.Branches.TheVariants.{Matched, Listed}
+use Rattle.gft_syntax.specs.declared.linear.LinTerm.{LinTerm}
+use Rattle.gft_syntax.specs.declared.linear.LinTerm.TheOpen.{LinTerm-F}
+use Rattle.gft_syntax.specs.declared.linear.LinTerm.TheFolds.{fold-LinTerm}
+use Rattle.gft_syntax.specs.declared.linear.Predef.{Predef}
+use Rattle.gft_syntax.specs.declared.linear.Typed.{Typed}
+use Rattle.gft_syntax.specs.declared.pattern.Pattern.{Pattern}
+use Rattle.gft_syntax.specs.declared.value.Param.{Param, out-Param}
+use Rattle.gft_syntax.specs.declared.value.Param.TheOpen.{Param-F}
+use Rattle.gft_syntax.specs.declared.value.Value.{Value, out-Value}
+use Rattle.gft_syntax.specs.declared.value.Value.TheOpen.{Value-F}
+use Rattle.gft_model.specs.Values.{param_of, params_of, entry_at, extended, part, glued, cut_step, cut_value}
+use Rattle.gft_model.specs.ConcreteTypes.{field_of, values_of}
+use Rattle.gft_model.specs.Matching.{Bindings, Match, matched, differs, hidden, Subject, parameter, closed, match_of, string_subject, known_words, words_value}
+use Rattle.gft_model.specs.ValueForms.{con_param, number_param, string_value, param_value, record_value, table_value}
+
+-- why a step is stuck: + on a closed part, a pattern or Predef on a closed part, no branch for a text
+pub data StuckRule : Type 0 where
+  glue_on_argument : StuckRule
+  match_on_argument : StuckRule
+  no_string_branch : StuckRule
+
+-- a stuck step: its rule and its place
+pub record Stuck : Type 0 where
+  pub rule : StuckRule
+  pub place : Place
+
+-- an outcome of a term of data
+pub data Outcome : Type 0 where
+  gives : Value → Outcome
+  stuck_at : Stuck → Outcome
+
+-- what a term may mean, and its outcomes in order: a value, or a function of one
+mutual
+  pub data Meaning : Type 0 where
+    plain : Value → Meaning
+    function : (Value → Results) → Meaning
+
+  pub data Results : Type 0 where
+    none : Results
+    also : Meaning → Results → Results
+    stuck : Stuck → Results → Results
+
+abbrev pub one : Meaning → Results
+one m = also m none
+
+abbrev pub stuck_by : StuckRule → Place → Results
+stuck_by rule place = stuck (record { rule = rule; place = place }) none
+
+-- the outcomes of the first, then those of the second
+abbrev pub followed_by : Results → Results → Results
+followed_by none s = s
+followed_by (also m r) s = also m (followed_by r s)
+followed_by (stuck k r) s = stuck k (followed_by r s)
+
+-- for each outcome of the first, the outcomes of what comes next; a stuck step stays
+abbrev pub and_then : Results → (Meaning → Results) → Results
+and_then none next = none
+and_then (also m r) next = followed_by (next m) (and_then r next)
+and_then (stuck k r) next = stuck k (and_then r next)
+
+-- the same where what comes next wants data
+abbrev pub with_value : Results → (Value → Results) → Results
+with_value r next = and_then r (λ m. elim m [ plain v ↦ next v | function f ↦ none ])
+
+-- one value of each, from left to right
+abbrev pub with_values : List Results → (List Value → Results) → Results
+with_values [] next = next []
+with_values (r ∷ rs) next = with_value r (λ v. with_values rs (λ vs. next (v ∷ vs)))
+
+-- the outcomes of each, one after the other
+abbrev pub all_of : List Results → Results
+all_of [] = none
+all_of (r ∷ rs) = followed_by r (all_of rs)
+
+-- the outcomes of data
+abbrev pub outcomes : Results → List Outcome
+outcomes none = []
+outcomes (also (plain v) r) = gives v ∷ outcomes r
+outcomes (also (function f) r) = outcomes r
+outcomes (stuck k r) = stuck_at k ∷ outcomes r
+
+-- the values of the arguments of a judgement, and of the variables, the nearest first
+pub record Environment : Type 0 where
+  pub arguments : List Value
+  pub variables : Bindings
+
+abbrev pub bind_all : Bindings → Environment → Environment
+bind_all bs env = record { arguments = env.arguments; variables = bs ++ env.variables }
+
+abbrev pub bind_in : Option (List ℕ) → Value → Environment → Environment
+bind_in None v env = env
+bind_in (Some x) v env = bind_all ((x, v) ∷ []) env
+
+-- a value that is there
+abbrev pub just : Option Value → Results
+just None = none
+just (Some v) = one (plain v)
+
+-- what each form of value gives where a string, a record, a table is wanted
+abbrev pub on_string : (List Sym → Results) → Value-F Value → Results
+on_string f (Value-F.Str ss) = f ss
+on_string f (Value-F.Param v) = none
+on_string f (Value-F.Record fs) = none
+on_string f (Value-F.Table es) = none
+
+abbrev pub on_record : (List (List ℕ × Value) → Results) → Value-F Value → Results
+on_record f (Value-F.Str ss) = none
+on_record f (Value-F.Param v) = none
+on_record f (Value-F.Record fs) = f fs
+on_record f (Value-F.Table es) = none
+
+abbrev pub on_table : (List (Param × Value) → Results) → Value-F Value → Results
+on_table f (Value-F.Str ss) = none
+on_table f (Value-F.Param v) = none
+on_table f (Value-F.Record fs) = none
+on_table f (Value-F.Table es) = f es
+
+abbrev pub with_string : Results → (List Sym → Results) → Results
+with_string r next = with_value r (λ v. on_string next (out-Value v))
+
+-- a parameter where one is wanted
+abbrev pub with_param : Results → (Param → Results) → Results
+with_param r next = with_value r (λ v. elim (param_of v) [ None ↦ none | Some p ↦ next p ])
+
+-- both strings known: glued; else stuck
+abbrev pub glue_strings : Place → List Sym → List Sym → Results
+glue_strings place ss ts =
+    elim (known_words ss) [
+      | None ↦ stuck_by glue_on_argument place
+      | Some us ↦ elim (known_words ts)
+          [ None ↦ stuck_by glue_on_argument place | Some vs ↦ one (plain (words_value (glued us vs))) ]
+    ]
+
+-- a part of a known text, cut into words again; else stuck
+abbrev pub predef_string : Predef → Place → ℕ → List Sym → Results
+predef_string p place n ss =
+    elim (known_words ss) [
+      | None ↦ stuck_by match_on_argument place
+      | Some ws ↦ one (plain (words_value (words_of (encode_utf8_all (part p n (chars (joined ws)))))))
+    ]
+
+abbrev pub on_number : (ℕ → Results) → Param-F Param → Results
+on_number f (Param-F.Con w vs) = none
+on_number f (Param-F.Ints n) = f n
+on_number f (Param-F.Record fs) = none
+
+-- the first branch that matches; where none does, a text is stuck
+abbrev pub no_branch : Place → Subject → Results
+no_branch place (parameter v) = none
+no_branch place (Subject.text cs) = stuck_by no_string_branch place
+no_branch place (closed ss) = stuck_by match_on_argument place
+
+abbrev pub taken : Match → (Bindings → Results) → Place → Results → Results
+taken (matched bs) here place after = here bs
+taken differs here place after = after
+taken hidden here place after = stuck_by match_on_argument place
+
+abbrev pub first_match : Place → Subject → List (Pattern × (Environment → Results)) → Environment → Results
+first_match place s [] env = no_branch place s
+first_match place s (b ∷ bs) env =
+    taken (match_of b.0 s) (λ vs. b.1 (bind_all vs env)) place (first_match place s bs env)
+
+-- the item at the subject's number among the values of the type
+abbrev pub item_at : Subject → List (Param × (Environment → Results)) → Environment → Results
+item_at (parameter v) items env = elim (entry_at v items) [ None ↦ none | Some t ↦ t env ]
+item_at (Subject.text cs) items env = none
+item_at (closed ss) items env = none
+
+abbrev pub branch_at : Place → Subject → Branches (Environment → Results) → Environment → Results
+branch_at place s (Matched bs) env = first_match place s bs env
+branch_at place s (Listed P ts) env = item_at s (zip (values_of P) ts) env
+
+-- the cell of a table at a parameter value
+abbrev pub first_cell : Param → List (Pattern × (Environment → Results)) → Environment → Results
+first_cell v [] env = none
+first_cell v (b ∷ bs) env =
+    elim (match_of b.0 (parameter v))
+    [ matched vs ↦ b.1 (bind_all vs env) | differs ↦ first_cell v bs env | hidden ↦ none ]
+
+abbrev pub cell_at : Param → Branches (Environment → Results) → Environment → Results
+cell_at v (Matched bs) env = first_cell v bs env
+cell_at v (Listed P ts) env = item_at (parameter v) (zip (values_of P) ts) env
+
+-- what a selector is to branches
+abbrev pub subject_of : Value-F Value → Value → (Subject → Results) → Results
+subject_of (Value-F.Str ss) v next = next (string_subject ss)
+subject_of (Value-F.Param p) v next = next (parameter p)
+subject_of (Value-F.Record fs) v next = elim (param_of v) [ None ↦ none | Some p ↦ next (parameter p) ]
+subject_of (Value-F.Table es) v next = none
+
+-- a function of type S where its supertype stands: its argument is cut to what S takes, and its
+-- result to what the supertype gives
+abbrev pub cut_function : (CType → Meaning → Results) → CType-F CType → (Value → Results) → Results
+cut_function after (CType-F.Fun A B) f = one (function (λ v. and_then (f (cut_value A v)) (after B)))
+cut_function after CType-F.Str f = none
+cut_function after (CType-F.Param w cs) f = none
+cut_function after (CType-F.Ints n) f = none
+cut_function after (CType-F.Record gs) f = none
+cut_function after (CType-F.Table P V) f = none
+cut_function after CType-F.TypeSort f = none
+cut_function after CType-F.ParamSort f = none
+
+-- how values, and what is of a given subtype, are cut to a type
+pub record Cut : Type 0 where
+  pub value : Value → Value
+  pub meaning : CType → Meaning → Results
+
+abbrev pub cut_plain : (Value → Value) → Meaning → Results
+cut_plain f m = elim m [ plain v ↦ one (plain (f v)) | function g ↦ none ]
+
+abbrev pub cut_meaning : CType-F Cut → (Value → Value) → CType → Meaning → Results
+cut_meaning (CType-F.Fun A B) f S m = elim m [ plain v ↦ none | function g ↦ cut_function B.meaning (out-CType S) g ]
+cut_meaning CType-F.Str f S m = cut_plain f m
+cut_meaning (CType-F.Param w cs) f S m = cut_plain f m
+cut_meaning (CType-F.Ints n) f S m = cut_plain f m
+cut_meaning (CType-F.Record gs) f S m = cut_plain f m
+cut_meaning (CType-F.Table P V) f S m = cut_plain f m
+cut_meaning CType-F.TypeSort f S m = cut_plain f m
+cut_meaning CType-F.ParamSort f S m = cut_plain f m
+
+abbrev pub cut_layer : CType-F Cut → Cut
+cut_layer d =
+    let f = cut_step (map-CType Cut (Value → Value) (λ c. c.value) d) in
+    record { value = f; meaning = cut_meaning d f }
+
+-- what is of type S, cut to its supertype T
+abbrev pub cut_to : CType → CType → Meaning → Results
+cut_to S T = (fold-CType Cut cut_layer T).meaning S
+
+-- what a layer means, from what its parts mean, where the opers mean what is given
+abbrev pub step : (ℕ → Results) → LinTerm-F (Environment → Results) → Environment → Results
+step opers (LinTerm-F.Var x) env = just (field_of x env.variables)
+step opers (LinTerm-F.Arg i) env = just (slice_get env.arguments i)
+step opers (LinTerm-F.Words ws) env = one (plain (words_value ws))
+step opers (LinTerm-F.Num n) env = one (plain (param_value (number_param n)))
+step opers (LinTerm-F.Con w ts) env =
+    with_values (map (λ t. t env) ts)
+    (λ vs. elim (params_of vs) [ None ↦ none | Some ps ↦ one (plain (param_value (con_param w ps))) ])
+step opers (LinTerm-F.Concat a b) env =
+    with_string (a env) (λ ss. with_string (b env) (λ ts. one (plain (string_value (ss ++ ts)))))
+step opers (LinTerm-F.Glue a b place) env =
+    with_string (a env) (λ ss. with_string (b env) (λ ts. glue_strings place ss ts))
+step opers (LinTerm-F.Predef p n s place) env =
+    with_param (n env) (λ v. on_number (λ k. with_string (s env) (λ ss. predef_string p place k ss)) (out-Param v))
+step opers (LinTerm-F.Record fs) env =
+    with_values (map (λ f. f.1 env) fs)
+    (λ vs. one (plain (record_value (extended [] (zip (map (λ f. f.0) fs) vs)))))
+step opers (LinTerm-F.Extend a b) env =
+    with_value (a env) (λ u. on_record (λ fs. with_value (b env) (λ v. on_record (λ gs.
+    one (plain (record_value (extended fs gs)))) (out-Value v))) (out-Value u))
+step opers (LinTerm-F.Proj t x) env = with_value (t env) (λ v. on_record (λ fs. just (field_of x fs)) (out-Value v))
+step opers (LinTerm-F.Table P bs) env =
+    with_values (map (λ v. cell_at v bs env) (values_of P))
+    (λ vs. one (plain (table_value (zip (values_of P) vs))))
+step opers (LinTerm-F.Select t e) env =
+    with_value (t env) (λ v. on_table (λ es. with_param (e env) (λ p. just (entry_at p es))) (out-Value v))
+step opers (LinTerm-F.Case e bs place) env =
+    with_value (e env) (λ v. subject_of (out-Value v) v (λ s. branch_at place s bs env))
+step opers (LinTerm-F.Variants ts) env = all_of (map (λ t. t env) ts)
+step opers (LinTerm-F.Let xs a b) env =
+    with_values (map (λ x. a env) xs) (λ vs. b (bind_all (reverse (zip xs vs)) env))
+step opers (LinTerm-F.Cut t S T) env = and_then (t env) (cut_to S T)
+step opers (LinTerm-F.Oper k) env = opers k
+step opers (LinTerm-F.Lambda x b) env = one (function (λ v. b (bind_in x v env)))
+step opers (LinTerm-F.App f a) env =
+    and_then (f env) (λ m. elim m [ plain v ↦ none | function g ↦ with_value (a env) g ])
+
+-- what a term means in an environment, where the opers mean what is given
+abbrev pub results_of : (ℕ → Results) → LinTerm → Environment → Results
+results_of opers = fold-LinTerm (Environment → Results) (step opers)
+
+-- the outcomes of a term of data, in order
+abbrev pub outcomes_of : (ℕ → Results) → LinTerm → Environment → List Outcome
+outcomes_of opers t env = outcomes (results_of opers t env)
+
+abbrev pub no_environment : Environment
+no_environment = record { arguments = []; variables = [] }
+
+-- what the oper of a number means, where at most so many opers are within one another
+abbrev pub opers_within : ℕ → List (Option Typed) → ℕ → Results
+opers_within zero typed k = none
+opers_within (suc n) typed k =
+    elim (option_and_then (λ t. t) (slice_get typed k))
+    [ None ↦ none | Some t ↦ results_of (opers_within n typed) t.term no_environment ]
+
+-- what the opers mean: the outcomes of their definitions; none needs itself
+abbrev pub opers_of : List (Option Typed) → ℕ → Results
+opers_of typed = opers_within (length typed) typed

@@ -1,0 +1,205 @@
+-- Judgements with each name replaced by what it means.
+use Rattle.std.specs.Prelude.{ℕ, List, [], ◌∷◌, ◌++◌, map, flat_map, Bool, bytes_eq, Option, Some, None, if◌then◌else◌, option_map}
+use Rattle.std.specs.List.{list_any}
+use Rattle.gft_core.specs.declared.place.Place.{Place}
+use Rattle.gft_syntax.specs.declared.bind.Bind.{Bind}
+use Rattle.gft_syntax.specs.declared.bind.Bind.TheVariants.{Variable, Nothing}
+use Rattle.gft_syntax.specs.declared.judgement.Constructor.{Constructor}
+use Rattle.gft_syntax.specs.declared.judgement.Context.{Context}
+use Rattle.gft_syntax.specs.declared.judgement.Definition.{Definition}
+use Rattle.gft_syntax.specs.declared.judgement.Definition.TheVariants as D
+use Rattle.gft_syntax.specs.declared.judgement.Judgement.{Judgement}
+use Rattle.gft_syntax.specs.declared.judgement.Judgement.TheVariants as J
+use Rattle.gft_syntax.specs.declared.pattern.Pattern.{Pattern, roll-Pattern}
+use Rattle.gft_syntax.specs.declared.pattern.Pattern.TheOpen as P
+use Rattle.gft_syntax.specs.declared.pattern.Pattern.TheFolds.{fold-Pattern}
+use Rattle.gft_syntax.specs.declared.reference.Reference.{Reference}
+use Rattle.gft_syntax.specs.declared.reference.Reference.TheVariants as R
+use Rattle.gft_syntax.specs.declared.reference.Whole.{Whole}
+use Rattle.gft_syntax.specs.declared.term.Case.{Case}
+use Rattle.gft_syntax.specs.declared.term.Local.{Local}
+use Rattle.gft_syntax.specs.declared.term.Local.TheVariants.{Value, Label, TypedValue}
+use Rattle.gft_syntax.specs.declared.term.Term.{Term, roll-Term, out-Term}
+use Rattle.gft_syntax.specs.declared.term.Term.TheOpen as T
+use Rattle.gft_syntax.specs.declared.term.Term.TheFolds.{para-Term}
+use Rattle.gft_model.specs.JudgementTyping.{list_name}
+
+-- what names mean: a bare one, one with a module's name before it, and which are constructors
+pub record Names : Type 0 where
+  pub bare : List ℕ → Option Whole
+  pub qualified : List ℕ → List ℕ → Option Whole
+  pub is_constructor : Whole → Bool
+
+-- the local variables
+abbrev pub Locals : Type 0
+Locals = List (List ℕ)
+
+abbrev pub is_local : List ℕ → Locals → Bool
+is_local x xs = list_any (bytes_eq x) xs
+
+abbrev pub bound_names : List Bind → Locals
+bound_names [] = []
+bound_names (Variable x place ∷ xs) = x ∷ bound_names xs
+bound_names (Nothing place ∷ xs) = bound_names xs
+
+-- a name, which means something or is a variable
+abbrev pub whole_or : Reference → Option Whole → Reference
+whole_or r None = r
+whole_or r (Some w) = R.Whole w
+
+abbrev pub resolved_name : Names → Reference → Locals → Reference
+resolved_name n (R.Written x) xs = if is_local x xs then R.Written x else whole_or (R.Written x) (n.bare x)
+resolved_name n (R.Found o) xs = R.Found o
+resolved_name n (R.Whole w) xs = R.Whole w
+
+-- a name of a pattern without arguments: only a constructor is no variable
+abbrev pub only_constructor : Names → List ℕ → Option Whole → Reference
+only_constructor n x None = R.Written x
+only_constructor n x (Some w) = if n.is_constructor w then R.Whole w else R.Written x
+
+abbrev pub resolved_leaf : Names → Locals → Reference → Reference
+resolved_leaf n xs (R.Written x) = if is_local x xs then R.Written x else only_constructor n x (n.bare x)
+resolved_leaf n xs (R.Found o) = R.Found o
+resolved_leaf n xs (R.Whole w) = R.Whole w
+
+-- a constructor with arguments or with a module's name
+abbrev pub resolved_head : Names → Option (List ℕ) → Reference → Reference
+resolved_head n None (R.Written x) = whole_or (R.Written x) (n.bare x)
+resolved_head n (Some Q) (R.Written x) = whole_or (R.Written x) (n.qualified Q x)
+resolved_head n m (R.Found o) = R.Found o
+resolved_head n m (R.Whole w) = R.Whole w
+
+abbrev pub pattern_step : Names → Locals → P.Pattern-F Pattern → Pattern
+pattern_step n xs (P.Con m r ps place) = roll-Pattern (P.Con m (resolved_head n m r) ps place)
+pattern_step n xs (P.Name r place) = roll-Pattern (P.Name (resolved_leaf n xs r) place)
+pattern_step n xs d = roll-Pattern d
+
+abbrev pub resolved_pattern : Names → Locals → Pattern → Pattern
+resolved_pattern n xs = fold-Pattern Pattern (pattern_step n xs)
+
+-- the variables of a resolved pattern
+abbrev pub variable_of : Reference → Locals
+variable_of (R.Written x) = x ∷ []
+variable_of (R.Found o) = []
+variable_of (R.Whole w) = []
+
+abbrev pub variables_step : P.Pattern-F Locals → Locals
+variables_step (P.Or p q place) = p
+variables_step (P.Seq p q place) = p ++ q
+variables_step (P.Con m r ps place) = flat_map (λ p. p) ps
+variables_step (P.Star p place) = []
+variables_step (P.As x p place) = x ∷ p
+variables_step (P.Any place) = []
+variables_step (P.One place) = []
+variables_step (P.Name r place) = variable_of r
+variables_step (P.Text t place) = []
+variables_step (P.Num k place) = []
+variables_step (P.Fields fs place) = flat_map (λ f. f.pattern) fs
+variables_step (P.Tuple ps place) = flat_map (λ p. p) ps
+
+abbrev pub variables_of : Pattern → Locals
+variables_of = fold-Pattern Locals variables_step
+
+-- a term under local variables
+abbrev pub Open : Type 0
+Open = Locals → Term
+
+-- fields, whose labels are no variables
+abbrev pub resolved_field : Locals → Local (Term × Open) → Local Term
+resolved_field xs (Value ls e) = Value ls (e.1 xs)
+resolved_field xs (Label ls t) = Label ls (t.1 xs)
+resolved_field xs (TypedValue ls t e) = TypedValue ls (t.1 xs) (e.1 xs)
+
+-- locals, each seeing those before it, and the variables after them
+abbrev pub local_names : {A : Type 0} → Local A → Locals
+local_names (Value ls e) = ls
+local_names (Label ls t) = ls
+local_names (TypedValue ls t e) = ls
+
+abbrev pub resolved_locals : Locals → List (Local (Term × Open)) → List (Local Term) × Locals
+resolved_locals xs [] = ([], xs)
+resolved_locals xs (l ∷ ls) =
+    let rest = resolved_locals (local_names l ++ xs) ls in (resolved_field xs l ∷ rest.0, rest.1)
+
+abbrev pub resolved_case : Names → Locals → Case (Term × Open) → Case Term
+resolved_case n xs c =
+    let p = resolved_pattern n xs c.pattern in
+    record { pattern = p; body = c.body.1 (variables_of p ++ xs) }
+
+-- Q.x is a whole name where Q is no variable and is a module or alias; else a projection
+abbrev pub qualified_name : Names → Locals → T.Term-F Term → List ℕ → Option Whole
+qualified_name n xs (T.Var (R.Written Q) place) x = if is_local Q xs then None else n.qualified Q x
+qualified_name n xs d x = None
+
+abbrev pub projected : Option Whole → Term → List ℕ → Place → Term
+projected None e x place = roll-Term (T.Proj e x place)
+projected (Some w) e x place = roll-Term (T.Var (R.Whole w) place)
+
+-- [C] means ListC, whatever the variables are
+abbrev pub list_category : Names → Reference → Reference
+list_category n (R.Written C) = whole_or (R.Written C) (n.bare (list_name C))
+list_category n (R.Found o) = R.Found o
+list_category n (R.Whole w) = R.Whole w
+
+abbrev pub resolve_step : Names → T.Term-F (Term × Open) → Open
+resolve_step n (T.Alt a b place) xs = roll-Term (T.Alt (a.1 xs) (b.1 xs) place)
+resolve_step n (T.Fun bs e place) xs = roll-Term (T.Fun bs (e.1 (bound_names bs ++ xs)) place)
+resolve_step n (T.TabFun bs e place) xs = roll-Term (T.TabFun bs (e.1 (bound_names bs ++ xs)) place)
+resolve_step n (T.Arrow bs a b place) xs = roll-Term (T.Arrow bs (a.1 xs) (b.1 (bound_names bs ++ xs)) place)
+resolve_step n (T.TabType a b place) xs = roll-Term (T.TabType (a.1 xs) (b.1 xs) place)
+resolve_step n (T.Let ls e place) xs = let r = resolved_locals xs ls in roll-Term (T.Let r.0 (e.1 r.1) place)
+resolve_step n (T.Concat a b place) xs = roll-Term (T.Concat (a.1 xs) (b.1 xs) place)
+resolve_step n (T.Glue a b place) xs = roll-Term (T.Glue (a.1 xs) (b.1 xs) place)
+resolve_step n (T.Select a b place) xs = roll-Term (T.Select (a.1 xs) (b.1 xs) place)
+resolve_step n (T.Extend a b place) xs = roll-Term (T.Extend (a.1 xs) (b.1 xs) place)
+resolve_step n (T.Pair a b place) xs = roll-Term (T.Pair (a.1 xs) (b.1 xs) place)
+resolve_step n (T.TableOf p cs place) xs =
+    roll-Term (T.TableOf (option_map (λ t. t.1 xs) p) (map (resolved_case n xs) cs) place)
+resolve_step n (T.TableList p es place) xs = roll-Term (T.TableList (p.1 xs) (map (λ e. e.1 xs) es) place)
+resolve_step n (T.App f a place) xs = roll-Term (T.App (f.1 xs) (a.1 xs) place)
+resolve_step n (T.CaseOf e cs place) xs = roll-Term (T.CaseOf (e.1 xs) (map (resolved_case n xs) cs) place)
+resolve_step n (T.Variants es place) xs = roll-Term (T.Variants (map (λ e. e.1 xs) es) place)
+resolve_step n (T.Proj e x place) xs = projected (qualified_name n xs (out-Term e.0) x) (e.1 xs) x place
+resolve_step n (T.Var r place) xs = roll-Term (T.Var (resolved_name n r xs) place)
+resolve_step n (T.Lit t place) xs = roll-Term (T.Lit t place)
+resolve_step n (T.Num k place) xs = roll-Term (T.Num k place)
+resolve_step n (T.Empty place) xs = roll-Term (T.Empty place)
+resolve_step n (T.ListCat r place) xs = roll-Term (T.ListCat (list_category n r) place)
+resolve_step n (T.Sort s place) xs = roll-Term (T.Sort s place)
+resolve_step n (T.Fields ls place) xs = roll-Term (T.Fields (map (resolved_field xs) ls) place)
+resolve_step n (T.Tuple es place) xs = roll-Term (T.Tuple (map (λ e. e.1 xs) es) place)
+resolve_step n (T.Typed e t place) xs = roll-Term (T.Typed (e.1 xs) (t.1 xs) place)
+
+-- a term with its names replaced, under local variables
+abbrev pub resolved : Names → Term → Open
+resolved n = para-Term Open (resolve_step n)
+
+-- contexts, each seeing the variables of those before it
+abbrev pub resolved_contexts : Names → Locals → List Context → List Context
+resolved_contexts n xs [] = []
+resolved_contexts n xs (c ∷ cs) =
+    record { binds = c.binds; of_type = resolved n c.of_type xs } ∷ resolved_contexts n (bound_names c.binds ++ xs) cs
+
+abbrev pub resolved_constructor : Names → Constructor → Constructor
+resolved_constructor n c = record { name = c.name; arguments = resolved_contexts n [] c.arguments }
+
+abbrev pub resolved_definition : Names → Locals → Definition → Definition
+resolved_definition n xs (D.Term e) = D.Term (resolved n e xs)
+resolved_definition n xs (D.Overload ds) =
+    D.Overload (map (λ d. record { names = d.names; of_type = resolved n d.of_type []; value = resolved n d.value [] }) ds)
+
+-- a judgement with its names replaced
+abbrev pub resolved_judgement : Names → Judgement → Judgement
+resolved_judgement n (J.Cat c cs) = J.Cat c (resolved_contexts n [] cs)
+resolved_judgement n (J.ListCat c r k place) = J.ListCat c (resolved_name n r []) k place
+resolved_judgement n (J.Fun ns t) = J.Fun ns (resolved n t [])
+resolved_judgement n (J.Flag f v) = J.Flag f v
+resolved_judgement n (J.Lincat ns t) = J.Lincat ns (resolved n t [])
+resolved_judgement n (J.Lin ns bs e) = J.Lin ns bs (resolved n e (bound_names bs))
+resolved_judgement n (J.Lindef ns bs e) = J.Lindef ns bs (resolved n e (bound_names bs))
+resolved_judgement n (J.Linref ns bs e) = J.Linref ns bs (resolved n e (bound_names bs))
+resolved_judgement n (J.ParamName p) = J.ParamName p
+resolved_judgement n (J.Param p cs) = J.Param p (map (resolved_constructor n) cs)
+resolved_judgement n (J.OperType ns t) = J.OperType ns (resolved n t [])
+resolved_judgement n (J.OperTyped ns t d) = J.OperTyped ns (resolved n t []) (resolved_definition n [] d)
+resolved_judgement n (J.Oper ns bs d) = J.Oper ns bs (resolved_definition n (bound_names bs) d)

@@ -1,0 +1,64 @@
+-- The strings of a tree in a language that is given by productions.
+use Rattle.std.specs.Prelude.{◌≡◌, ◌<◌, ◌^◌, ℕ, suc, List, [], ◌∷◌, ◌++◌, codes, Contains, Some, slice_get}
+use Rattle.std.specs.Fmt.{decimal}
+use Rattle.gft_core.specs.Words.{IsWord}
+use Rattle.gft_core.specs.declared.symbol.Sym.{Sym}
+use Rattle.gft_core.specs.declared.tree.Tree.{Tree}
+use Rattle.gft_pmcfg.specs.declared.signature.Fun.{Fun}
+use Rattle.gft_pmcfg.specs.declared.signature.Abstract.{Abstract}
+use Rattle.gft_pmcfg.specs.declared.concrete.Prod.{Prod}
+use Rattle.gft_pmcfg.specs.declared.concrete.Concrete.{Concrete}
+use Rattle.gft_model.specs.Trees.{IsApplication, IsInteger, IsString, IsHole}
+use Rattle.gft_model.specs.Brackets.{Piece, word, grammar, bracketed, erased}
+use Rattle.gft_model.specs.Runs.{Strings, IsRef, IsOf, applied, filled, number_at, string_at}
+
+-- the token of a hole, as the one component that a def has
+abbrev pub token_of : ℕ → Strings
+token_of k = (word grammar (codes "?" ++ decimal k) ∷ []) ∷ []
+
+-- a hole of `Int` or `String` gives its token
+abbrev pub token_at : List ℕ → ℕ → Strings
+token_at p k = bracketed p (word grammar (codes "?" ++ decimal k) ∷ []) ∷ []
+
+mutual
+  -- the tree at the position p has these components in the case of the nonterminal
+  pub data HasValue (a : Abstract) (c : Concrete) : List ℕ → Tree → ℕ → Strings → Type 0 where
+    hole : {p : List ℕ} {t : Tree} {k n : ℕ} {seqs : List (List Sym)} → IsHole t k → k < 2 ^ 32
+        → Contains c.defs (record { result = n; seqs = seqs })
+        → HasValue a c p t n (applied p (token_of k ∷ []) seqs)
+    hole_of_numbers : {p : List ℕ} {t : Tree} {k : ℕ} → IsHole t k → k < 2 ^ 32
+        → HasValue a c p t 0 (token_at p k)
+    hole_of_strings : {p : List ℕ} {t : Tree} {k : ℕ} → IsHole t k → k < 2 ^ 32
+        → HasValue a c p t 1 (token_at p k)
+    number : {p : List ℕ} {t : Tree} {n : ℕ} → IsInteger t n → n < 2 ^ 128
+        → HasValue a c p t 0 (number_at p n)
+    string : {p : List ℕ} {t : Tree} {w : List ℕ} → IsString t w → IsWord w
+        → HasValue a c p t 1 (string_at p w)
+    application : {p : List ℕ} {t : Tree} {f : Fun} {ts : List Tree} {prod : Prod} {args : List Strings}
+        → IsApplication t f.name ts
+        → Contains c.prods prod → slice_get a.funs prod.fun ≡ Some f → HaveValues a c p 0 ts prod.args args
+        → HasValue a c p t prod.result (applied p args prod.seqs)
+
+  -- so have its arguments from number i + 1 on, in the cases of their nonterminals
+  pub data HaveValues (a : Abstract) (c : Concrete) : List ℕ → ℕ → List Tree → List ℕ → List Strings
+      → Type 0 where
+    none : {p : List ℕ} {i : ℕ} → HaveValues a c p i [] [] []
+    more : {p : List ℕ} {i n : ℕ} {t : Tree} {ts : List Tree} {ns : List ℕ} {v : Strings} {vs : List Strings}
+        → HasValue a c (p ++ suc i ∷ []) t n v → HaveValues a c p (suc i) ts ns vs
+        → HaveValues a c p i (t ∷ ts) (n ∷ ns) (v ∷ vs)
+
+-- b is a bracketed string of the tree; the category is that of a tree that is one hole, and is not looked
+-- at for another tree
+pub record IsBracketedString (a : Abstract) (c : Concrete) (cat : ℕ) (t : Tree)
+    (b : List Piece) : Type 0 where
+  pub nonterminal : ℕ
+  pub components : Strings
+  pub value : HasValue a c [] t nonterminal components
+  pub category : (k : ℕ) → IsHole t k → IsOf c.infos cat nonterminal
+  pub seq : List Sym
+  pub ref : IsRef c nonterminal seq
+  pub string : b ≡ filled (components ∷ []) seq
+
+-- the words are a string of the tree
+abbrev pub IsStringOf : Abstract → Concrete → ℕ → Tree → List (List ℕ) → Type 0
+IsStringOf a c cat t words = (b : List Piece) × IsBracketedString a c cat t b × (erased b ≡ words)

@@ -1,0 +1,53 @@
+-- Laws of the definitions over sources, each the clause of a function.
+use Rattle.std.specs.Prelude.{◌≡◌, ℕ, List, [], ◌∷◌, ◌++◌, length}
+use Rattle.gft_syntax.specs.declared.ctype.CType.{CType}
+use Rattle.gft_syntax.specs.declared.linear.LinTerm.{LinTerm, roll-LinTerm}
+use Rattle.gft_syntax.specs.declared.linear.LinTerm.TheOpen as Lin-F
+use Rattle.gft_syntax.specs.declared.pattern.Pattern.{Pattern}
+use Rattle.gft_syntax.specs.declared.term.Term.{Term}
+use Rattle.gft_syntax.specs.declared.token.SourceToken.{SourceToken}
+use Rattle.gft_model.specs.ConcreteTypes.{values_of, count_of}
+use Rattle.gft_model.specs.ConcreteTyping.{IsType, Finds, Checks}
+use Rattle.gft_model.specs.Items.{Item}
+use Rattle.gft_model.specs.PatternTyping.{Scope, PatternFits}
+use Rattle.gft_model.specs.Outcomes.{Results, Environment, outcomes_of}
+use Rattle.gft_model.specs.Source.{Tokens}
+
+-- a file has at most one list of tokens
+abbrev pub TokensAreDetermined : Type 0
+TokensAreDetermined =
+    (file : ℕ) (bytes : List ℕ) (ts us : List SourceToken) → Tokens file bytes ts → Tokens file bytes us → ts ≡ us
+
+-- the outcomes of a | b are those of a, then those of b
+abbrev pub AlternativesInOrder : Type 0
+AlternativesInOrder =
+    (opers : ℕ → Results) (a b : LinTerm) (env : Environment) →
+    outcomes_of opers (roll-LinTerm (Lin-F.Variants (a ∷ b ∷ []))) env ≡ outcomes_of opers a env ++ outcomes_of opers b env
+
+-- variants {} has no outcome
+abbrev pub NoVariants : Type 0
+NoVariants = (opers : ℕ → Results) (env : Environment) → outcomes_of opers (roll-LinTerm (Lin-F.Variants [])) env ≡ []
+
+-- a type has as many parameter values as are counted
+abbrev pub ValuesAreCounted : Type 0
+ValuesAreCounted = (T : CType) → length (values_of T) ≡ count_of T
+
+-- a pattern fits a type with at most one scope
+abbrev pub PatternFitsOnce : Type 0
+PatternFitsOnce = (T : CType) (p : Pattern) (Γ Δ : Scope) → PatternFits T p Γ → PatternFits T p Δ → Γ ≡ Δ
+
+-- a term is at most one type, where a type must stand
+abbrev pub WrittenTypeIsDetermined : Type 0
+WrittenTypeIsDetermined = (items : List Item) (e : Term) (S T : CType) → IsType items e S → IsType items e T → S ≡ T
+
+-- a term has at most one found type, and means at most one typed term
+abbrev pub FoundTypeIsDetermined : Type 0
+FoundTypeIsDetermined =
+    (items : List Item) (Γ : Scope) (e : Term) (S T : CType) (t u : LinTerm) →
+    Finds items Γ e S t → Finds items Γ e T u → (S ≡ T) × (t ≡ u)
+
+-- a term that fits a type means at most one typed term there
+abbrev pub MeaningIsDetermined : Type 0
+MeaningIsDetermined =
+    (items : List Item) (Γ : Scope) (e : Term) (T : CType) (t u : LinTerm) →
+    Checks items Γ e T t → Checks items Γ e T u → t ≡ u

@@ -1,0 +1,111 @@
+-- Concrete types, terms and typed terms as typing makes them, form by form.
+use Rattle.std.specs.Prelude.{ℕ, suc, List, [], ◌∷◌, ◌++◌, Option, Some, None, bytes_eq, codes, if◌then◌else◌}
+use Rattle.gft_core.specs.declared.place.Place.{Place}
+use Rattle.gft_syntax.specs.declared.bind.Bind.{Bind}
+use Rattle.gft_syntax.specs.declared.bind.Bind.TheVariants.{Variable, Nothing}
+use Rattle.gft_syntax.specs.declared.reference.Whole.{Whole}
+use Rattle.gft_syntax.specs.declared.reference.Reference.TheVariants.{Written}
+use Rattle.gft_syntax.specs.declared.ctype.CType.{CType, roll-CType}
+use Rattle.gft_syntax.specs.declared.ctype.CType.TheOpen as CType-F
+use Rattle.gft_syntax.specs.declared.linear.LinTerm.{LinTerm, roll-LinTerm}
+use Rattle.gft_syntax.specs.declared.linear.LinTerm.TheOpen as Lin-F
+use Rattle.gft_syntax.specs.declared.linear.Predef.{Predef}
+use Rattle.gft_syntax.specs.declared.linear.Predef.TheVariants.{Take, Drop, Tk, Dp}
+use Rattle.gft_syntax.specs.declared.pattern.Pattern.{Pattern, roll-Pattern}
+use Rattle.gft_syntax.specs.declared.pattern.Pattern.TheOpen as Pattern-F
+use Rattle.gft_syntax.specs.declared.term.Term.{Term}
+use Rattle.gft_syntax.specs.declared.term.Local.{Local}
+use Rattle.gft_syntax.specs.declared.term.Local.TheVariants.{Value}
+use Rattle.gft_model.specs.Matching.{tuple_label}
+use Rattle.gft_model.specs.Values.{extended}
+
+abbrev pub str_type : CType
+str_type = roll-CType CType-F.Str
+
+abbrev pub number_type : ℕ → CType
+number_type n = roll-CType (CType-F.Ints n)
+
+-- a record type, its labels put in order
+abbrev pub record_type : List (List ℕ × CType) → CType
+record_type fs = roll-CType (CType-F.Record (extended [] fs))
+
+abbrev pub table_type : CType → CType → CType
+table_type P V = roll-CType (CType-F.Table P V)
+
+abbrev pub function_type : CType → CType → CType
+function_type A B = roll-CType (CType-F.Fun A B)
+
+abbrev pub sort_type : CType
+sort_type = roll-CType CType-F.TypeSort
+
+abbrev pub sort_param : CType
+sort_param = roll-CType CType-F.ParamSort
+
+-- the function type with these parameters
+abbrev pub functions : List CType → CType → CType
+functions [] R = R
+functions (A ∷ As) R = function_type A (functions As R)
+
+-- items with the labels p1, p2, ..
+abbrev pub tuple_fields : {A : Type 0} → ℕ → List A → List (List ℕ × A)
+tuple_fields n [] = []
+tuple_fields n (a ∷ es) = (tuple_label n, a) ∷ tuple_fields (suc n) es
+
+-- a tuple is the record with the labels p1, p2, ..
+abbrev pub tuple_locals : ℕ → List Term → List (Local Term)
+tuple_locals n [] = []
+tuple_locals n (e ∷ es) = Value (tuple_label n ∷ []) e ∷ tuple_locals (suc n) es
+
+-- typed terms, by their layers
+abbrev pub made : Lin-F.LinTerm-F LinTerm → LinTerm
+made = roll-LinTerm
+
+-- the empty record: what a type is as a value
+abbrev pub no_value : LinTerm
+no_value = made (Lin-F.Record [])
+
+-- a variable that a bind binds
+abbrev pub bound : Bind → Option (List ℕ)
+bound (Variable x place) = Some x
+bound (Nothing place) = None
+
+abbrev pub with_bound : {A : Type 0} → Bind → A → List (List ℕ × A) → List (List ℕ × A)
+with_bound (Variable x place) a Γ = (x, a) ∷ Γ
+with_bound (Nothing place) a Γ = Γ
+
+-- the pattern that binds it
+abbrev pub bound_pattern : Bind → Pattern
+bound_pattern (Variable x place) = roll-Pattern (Pattern-F.Name (Written x) place)
+bound_pattern (Nothing place) = roll-Pattern (Pattern-F.Any place)
+
+-- a constructor as a function of its arguments; the labels of a tuple serve as its variables
+abbrev pub constructor_after : ℕ → List CType → List LinTerm → Whole → LinTerm
+constructor_after n [] vs w = made (Lin-F.Con w vs)
+constructor_after n (T ∷ Ts) vs w =
+    let x = tuple_label n in
+    made (Lin-F.Lambda (Some x) (constructor_after (suc n) Ts (vs ++ made (Lin-F.Var x) ∷ []) w))
+
+abbrev pub constructor_term : List CType → Whole → LinTerm
+constructor_term Ts w = constructor_after 0 Ts [] w
+
+-- the greatest number
+abbrev pub greatest : ℕ
+greatest = 340282366920938463463374607431768211455
+
+-- the type of take, drop, tk and dp
+abbrev pub predef_type : CType
+predef_type = functions (number_type greatest ∷ str_type ∷ []) str_type
+
+-- such a function; where it is stuck it stands at its name
+abbrev pub predef_term : Predef → Place → LinTerm
+predef_term p place =
+    let n = tuple_label 0 in
+    let s = tuple_label 1 in
+    made (Lin-F.Lambda (Some n) (made (Lin-F.Lambda (Some s)
+    (made (Lin-F.Predef p (made (Lin-F.Var n)) (made (Lin-F.Var s)) place)))))
+
+-- the names of these functions
+abbrev pub predef_named : List ℕ → Option Predef
+predef_named x =
+    if bytes_eq x (codes "take") then Some Take else if bytes_eq x (codes "drop") then Some Drop
+    else if bytes_eq x (codes "tk") then Some Tk else if bytes_eq x (codes "dp") then Some Dp else None

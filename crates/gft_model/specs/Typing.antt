@@ -1,0 +1,68 @@
+-- Abstract typing: dependent types of first order, without definitions.
+use Rattle.std.specs.Prelude.{◌≡◌, ◌<◌, ◌^◌, ℕ, zero, suc, List, [], ◌∷◌, ◌++◌, map, slice_get, slice_index_or, Some, Contains}
+use Rattle.std.specs.List.Sorted.{IsPermutation}
+use Rattle.gft_core.specs.Words.{IsWord}
+use Rattle.gft_core.specs.declared.tree.Tree.{Tree, Hole}
+use Rattle.gft_pmcfg.specs.declared.signature.AType.{AType}
+use Rattle.gft_pmcfg.specs.declared.signature.Cat.{Cat}
+use Rattle.gft_pmcfg.specs.declared.signature.Fun.{Fun}
+use Rattle.gft_pmcfg.specs.declared.signature.Abstract.{Abstract}
+use Rattle.gft_model.specs.Trees.{IsApplication, IsInteger, IsString, IsHole, filled}
+
+-- a variable of a type stands for the argument of its number, from 1
+abbrev pub value_of : List Tree → ℕ → Tree
+value_of ts zero = Hole zero
+value_of ts (suc k) = slice_index_or ts k (Hole (suc k))
+
+-- the type with each variable replaced by its argument
+abbrev pub type_at : List Tree → AType → AType
+type_at ts a = record { cat = a.cat; args = map (filled (value_of ts)) a.args }
+
+-- the types of literals
+abbrev pub int_type : AType
+int_type = record { cat = 0; args = [] }
+
+abbrev pub string_type : AType
+string_type = record { cat = 1; args = [] }
+
+-- the types of holes, by their numbers
+abbrev pub HoleTypes : Type 0
+HoleTypes = List (ℕ × AType)
+
+mutual
+  -- the tree has the type, its holes having the types T
+  pub data HasType (a : Abstract) (T : HoleTypes) : Tree → AType → Type 0 where
+    hole : {t : Tree} {k : ℕ} {type : AType} → IsHole t k → k < 2 ^ 32 → Contains T (k, type)
+        → HasType a T t type
+    integer : {t : Tree} {n : ℕ} → IsInteger t n → n < 2 ^ 128 → HasType a T t int_type
+    text : {t : Tree} {w : List ℕ} → IsString t w → IsWord w → HasType a T t string_type
+    application : {t : Tree} {f : Fun} {ts : List Tree} → Contains a.funs f → IsApplication t f.name ts
+        → HaveTypes a T [] f.args ts → HasType a T t (type_at ts f.result)
+
+  -- the trees have the types, of which each is over the trees before it; other trees may stand before all
+  pub data HaveTypes (a : Abstract) (T : HoleTypes) : List Tree → List AType → List Tree → Type 0 where
+    none : {before : List Tree} → HaveTypes a T before [] []
+    more : {before : List Tree} {type : AType} {types : List AType} {t : Tree} {ts : List Tree}
+        → HasType a T t (type_at before type)
+        → HaveTypes a T (before ++ t ∷ []) types ts → HaveTypes a T before (type ∷ types) (t ∷ ts)
+
+-- the type is well formed: a category with an index for each type of its context
+pub record IsType (a : Abstract) (T : HoleTypes) (type : AType) : Type 0 where
+  pub category : Cat
+  pub numbered : slice_get a.cats type.cat ≡ Some category
+  pub indices : HaveTypes a T [] category.context type.args
+
+-- the holes stand in a list, the last one first, so that each type is well formed over the earlier ones
+pub data AreInOrder (a : Abstract) : HoleTypes → Type 0 where
+  empty : AreInOrder a []
+  later : {T : HoleTypes} {k : ℕ} {type : AType} → AreInOrder a T
+      → ¬ Contains (map (λ (h : ℕ × AType). h.0) T) k → IsType a T type
+      → AreInOrder a ((k, type) ∷ T)
+
+-- the types of holes are admitted where their holes can be put in such an order
+abbrev pub IsAdmitted : Abstract → HoleTypes → Type 0
+IsAdmitted a T = (ordered : HoleTypes) × IsPermutation ordered T × AreInOrder a ordered
+
+-- the tree has some type under some admitted types of its holes
+abbrev pub IsTyped : Abstract → Tree → Type 0
+IsTyped a t = (T : HoleTypes) × IsAdmitted a T × (type : AType) × HasType a T t type

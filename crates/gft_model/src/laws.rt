@@ -1,0 +1,53 @@
+//! Laws of the definitions. Each function does nothing; its clause is the law.
+ghost use Rattle.gft_model.specs.Laws.{CutCoversTree, ListedCoversTree, SolutionIsUnique, ErasedIsString, YieldIsDetermined, NonterminalIsDetermined, ValueIsOfRun, RunGivesValue, TypeIsDetermined, TypedHasSkeletonType};
+
+/// The solution of a pattern is unique: it fixes the numbers of its holes too.
+pub fn solution_is_unique()
+    ensures { SolutionIsUnique }
+{}
+
+/// Erasing the brackets and marks of a bracketed string of a tree gives a string of it.
+pub fn erased_is_string()
+    ensures { ErasedIsString }
+{}
+
+/// The words that a run yields under a ref are determined.
+pub fn yield_is_determined()
+    ensures { YieldIsDetermined }
+{}
+
+/// A run is one to at most one nonterminal.
+pub fn nonterminal_is_determined()
+    ensures { NonterminalIsDetermined }
+{}
+
+/// The components that a closed tree has are those of a run of it: a choice of a production for each
+/// application.
+pub fn value_is_of_run()
+    ensures { ValueIsOfRun }
+{}
+
+/// A run without holes gives its components to its tree, where each production is of a function.
+pub fn run_gives_value()
+    ensures { RunGivesValue }
+{}
+
+/// A tree has at most one type, where functions are told apart by their names and each hole has one type.
+pub fn type_is_determined()
+    ensures { TypeIsDetermined }
+{}
+
+/// A typed tree has the category of its type as its skeleton type.
+pub fn typed_has_skeleton_type()
+    ensures { TypedHasSkeletonType }
+{}
+
+/// A closed tree is an instance of what a string shows of it.
+pub fn cut_covers_tree()
+    ensures { CutCoversTree }
+{}
+
+/// A tree of which a pattern is listed is an instance of that pattern.
+pub fn listed_covers_tree()
+    ensures { ListedCoversTree }
+{}

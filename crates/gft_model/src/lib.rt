@@ -1,0 +1,15 @@
+//! The definitions of the language as a reader checks them, and their laws.
+#![tactic(auto)]
+
+mod laws;
+mod sources;
+
+pub use laws::{
+    cut_covers_tree, erased_is_string, listed_covers_tree, nonterminal_is_determined,
+    run_gives_value, solution_is_unique, type_is_determined, typed_has_skeleton_type,
+    value_is_of_run, yield_is_determined,
+};
+pub use sources::{
+    alternatives_in_order, found_type_is_determined, meaning_is_determined, no_variants,
+    pattern_fits_once, tokens_are_determined, values_are_counted, written_type_is_determined,
+};

@@ -1,0 +1,42 @@
+//! Laws of the definitions over sources. Each function does nothing; its clause is the law.
+ghost use Rattle.gft_model.specs.SourceLaws.{TokensAreDetermined, AlternativesInOrder, NoVariants, ValuesAreCounted, PatternFitsOnce, WrittenTypeIsDetermined, FoundTypeIsDetermined, MeaningIsDetermined};
+
+/// A file has at most one list of tokens.
+pub fn tokens_are_determined()
+    ensures { TokensAreDetermined }
+{}
+
+/// The outcomes of a choice of two terms are those of the first, then those of the second.
+pub fn alternatives_in_order()
+    ensures { AlternativesInOrder }
+{}
+
+/// A choice among no terms has no outcome.
+pub fn no_variants()
+    ensures { NoVariants }
+{}
+
+/// A type has as many parameter values as are counted.
+pub fn values_are_counted()
+    ensures { ValuesAreCounted }
+{}
+
+/// A pattern fits a type with at most one scope.
+pub fn pattern_fits_once()
+    ensures { PatternFitsOnce }
+{}
+
+/// A term is at most one type, where a type must stand.
+pub fn written_type_is_determined()
+    ensures { WrittenTypeIsDetermined }
+{}
+
+/// A term has at most one found type, and means at most one typed term.
+pub fn found_type_is_determined()
+    ensures { FoundTypeIsDetermined }
+{}
+
+/// A term that fits a type means at most one typed term there.
+pub fn meaning_is_determined()
+    ensures { MeaningIsDetermined }
+{}
