@@ -1,0 +1,1 @@
+abstract Hullo = {cat S ; X ; fun Greet : X -> S ; World, Mum : X ;}

@@ -1,0 +1,1 @@
+abstract Hello = {cat S ; X ; fun Greet : X -> S ; World, Mum : X ;} ;

@@ -1,0 +1,1 @@
+abstract Hello = {cat S ; X ; fun Meet : X -> X -> S ; World, Mum : X ;}

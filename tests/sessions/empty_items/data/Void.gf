@@ -1,0 +1,1 @@
+abstract Void = {cat S ; fun Empty : S ; Some, Quiet : S -> S ;}

@@ -1,0 +1,1 @@
+abstract Hello = {cat S ; X ; fun table : X -> S ; World, Mum : X ;}

@@ -1,0 +1,1 @@
+abstract Hello = {cat S ; X ; fun Greet : Y -> S ; World, Mum : X ;}
