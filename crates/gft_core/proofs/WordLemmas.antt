@@ -8,9 +8,9 @@ use Rattle.std.proofs.lemmas.Str.{chars_past_char, IsUtf8-past_char, chars_from_
 use Rattle.std.proofs.lemmas.Bool.{false≢true}
 use Rattle.std.proofs.lemmas.Bool.Decides.{nat_tests}
 use lib.Utf8.{scalars, scalar}
-use Rattle.gft_core.specs.Words.{runs, later_runs, first_run, words_of, is_word, IsWord}
+use Rattle.gft_core.specs.Words.{runs, later_runs, first_run, words_of, IsWord}
 
-true_of_and : (a b : Bool) → (a && b) ≡ true → (a ≡ true) × (b ≡ true)
+pub true_of_and : (a b : Bool) → (a && b) ≡ true → (a ≡ true) × (b ≡ true)
 true_of_and true b h = (refl, h)
 true_of_and false b h = absurd (false≢true h)
 
@@ -83,7 +83,7 @@ pub record IsTurn (bs word rest : List ℕ) : Type 0 where
   pub is_text : IsUtf8 rest
   pub words : words_of bs ≡ word ∷ words_of rest
 
-nonempty_source : (cs : List ℕ) (bs : List ℕ) → encode_utf8_all cs ≡ bs → 0 < length bs → 0 < length cs
+pub nonempty_source : (cs : List ℕ) (bs : List ℕ) → encode_utf8_all cs ≡ bs → 0 < length bs → 0 < length cs
 nonempty_source [] bs e h = absurd (omega (arith, ap length e))
 nonempty_source (c ∷ cs) bs e h = omega arith
 

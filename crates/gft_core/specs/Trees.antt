@@ -1,5 +1,4 @@
 -- Trees: their layers.
-use Rattle.std.specs.Prelude.{ℕ, List}
 use Rattle.gft_core.specs.declared.tree.Tree.{Tree}
 use Rattle.gft_core.specs.declared.tree.Tree.TheOpen.{Tree-F}
 

@@ -1,8 +1,8 @@
 -- The words of a text, and the text of words.
-use Rattle.std.specs.Prelude.{◌≡◌, ◌==◌, ℕ, Bool, true, not, ◌&&◌, List, [], ◌∷◌, ◌++◌, length, map, encode_utf8_all, if◌then◌else◌}
+use Rattle.std.specs.Prelude.{◌≡◌, ◌==◌, ℕ, Bool, true, false, not, ◌&&◌, List, [], ◌∷◌, ◌++◌, length, map, encode_utf8_all, if◌then◌else◌}
 use Rattle.std.specs.Char.{is_whitespace, is_not_whitespace}
 use Rattle.std.specs.List.{flat_map, list_all}
-use Rattle.std.specs.Str.{chars}
+use Rattle.std.specs.Str.{chars, IsUtf8, skip_leading_whitespace, drop_trailing_whitespace}
 
 -- a text that is one word: not empty, and without white space
 abbrev pub is_word : List ℕ → Bool
@@ -36,3 +36,21 @@ words_of text = map encode_utf8_all (runs is_whitespace (chars text))
 abbrev pub joined : List (List ℕ) → List ℕ
 joined [] = []
 joined (w ∷ ws) = w ++ flat_map (λ v. 32 ∷ v) ws
+
+-- bytes that a word can have: a word in UTF-8
+abbrev pub IsWordInUtf8 : List ℕ → Type 0
+IsWordInUtf8 text = IsUtf8 text × IsWord text
+
+-- whether white space comes first
+abbrev pub starts_white : List ℕ → Bool
+starts_white [] = false
+starts_white (c ∷ cs) = is_whitespace c
+
+-- each maximal run of white space is one space, in the place of its last character
+abbrev pub singled : List ℕ → List ℕ
+singled [] = []
+singled (c ∷ cs) = if is_whitespace c then (if starts_white cs then singled cs else 32 ∷ singled cs) else c ∷ singled cs
+
+-- a text with its white space made single: what stands at its ends dropped, and each other maximal run one space
+abbrev pub single_spaced : List ℕ → List ℕ
+single_spaced text = encode_utf8_all (singled (drop_trailing_whitespace (skip_leading_whitespace (chars text))))

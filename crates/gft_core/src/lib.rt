@@ -13,7 +13,7 @@ mod tree;
 pub use memory::NoMemory;
 pub use name::{Name, is_continue, is_start};
 pub use place::Place;
-pub use spacing::{join, words};
+pub use spacing::{join, words, words_and_join};
 pub use symbol::Sym;
 pub use text::Text;
 pub use token::{Token, same};

@@ -1,7 +1,7 @@
 //! The words of a text, and the text of words.
 ghost use Rattle.std.specs.Prelude.{◌≡◌, ℕ, List, ◌∷◌, ◌++◌, IfOk, OnOk, string_bytes};
-ghost use Rattle.std.specs.List.{flat_map};
-ghost use Rattle.gft_core.specs.Words.{words_of, joined};
+ghost use Rattle.std.specs.List.{All, flat_map};
+ghost use Rattle.gft_core.specs.Words.{words_of, joined, single_spaced, IsWordInUtf8};
 
 use crate::memory::NoMemory;
 use crate::text::Text;
@@ -42,3 +42,10 @@ pub fn join(alloc: Global, words: &Vec<Token>) -> Result<Text, NoMemory>
     push_spaced(&mut text, others)?;
     Text::from_str(alloc, text.as_str())
 }
+
+/// `words` and `join` are inverse to each other up to white space. The function does nothing; its
+/// clauses are the law.
+pub fn words_and_join()
+    ensures joined_words { (ws : List (List ℕ)) → All IsWordInUtf8 ws → words_of (joined ws) ≡ ws }
+    ensures words_joined { (text : List ℕ) → joined (words_of text) ≡ single_spaced text }
+{}

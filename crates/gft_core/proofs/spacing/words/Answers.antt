@@ -1,4 +1,4 @@
-use Rattle.std.proofs.Common.{◌≡◌, ◌∷◌, ◌++◌, [], sym, ap, ◌∙◌, append_assoc, append-nil}
+use Rattle.std.proofs.Common.{◌∷◌, ◌++◌, [], sym, ap, ◌∙◌, append_assoc, append-nil}
 use Rattle.std.specs.Str.Iter.{split_whitespace_rest}
 use Rattle.gft_core.specs.Words.{words_of}
 use Rattle.gft_core.proofs.WordLemmas.{IsTurn, turn, no_words}
