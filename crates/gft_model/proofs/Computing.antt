@@ -13,6 +13,9 @@ use Rattle.gft_syntax.specs.declared.linear.LinTerm.TheFolds.{fold-roll-LinTerm,
 use Rattle.gft_syntax.specs.declared.pattern.Pattern.{Pattern, roll-Pattern}
 use Rattle.gft_syntax.specs.declared.pattern.Pattern.TheOpen.{Pattern-F}
 use Rattle.gft_syntax.specs.declared.pattern.Pattern.TheFolds.{fold-roll-Pattern, map-Pattern}
+use Rattle.gft_syntax.specs.declared.term.Term.{Term, roll-Term}
+use Rattle.gft_syntax.specs.declared.term.Term.TheViews.{out-roll-Term}
+use Rattle.gft_syntax.specs.Terms.{Layer}
 use Rattle.gft_syntax.specs.declared.value.Param.{Param, roll-Param, out-Param}
 use Rattle.gft_syntax.specs.declared.value.Param.TheOpen.{Param-F}
 use Rattle.gft_syntax.specs.declared.value.Param.TheFolds.{fold-roll-Param, map-Param}
@@ -25,7 +28,12 @@ use Rattle.gft_model.specs.Outcomes.{Results, Environment, results_of, step}
 use Rattle.gft_core.specs.declared.symbol.Sym.{Sym}
 use Rattle.gft_model.specs.TreeStrings.{first_string, first_string_step}
 use Rattle.gft_model.specs.TreeValues.{string_leaves, leaves_of_step, Numbered, number_step, AtPosition, value_of_layer, bracketed_values}
+use Rattle.gft_model.specs.TypeForms.{form, as_name}
 use Rattle.gft_model.specs.Values.{same_param, same_step, cut_value, cut_step}
+
+pub form-roll : (d : Layer) → form (roll-Term d) ≡ as_name d
+unfolding form
+form-roll d = ap as_name (out-roll-Term d)
 
 pub results-roll : (opers : ℕ → Results) (d : LinTerm-F LinTerm) (env : Environment) →
     results_of opers (roll-LinTerm d) env ≡ step opers (map-LinTerm LinTerm (Environment → Results) (results_of opers) d) env

@@ -13,13 +13,13 @@ use Rattle.gft_syntax.specs.declared.reference.Whole.{Whole}
 use Rattle.gft_syntax.specs.declared.term.Case.{Case}
 use Rattle.gft_syntax.specs.declared.term.Local.{Local}
 use Rattle.gft_syntax.specs.declared.term.Sort.TheVariants as Sort
-use Rattle.gft_syntax.specs.declared.term.Term.{Term, out-Term}
+use Rattle.gft_syntax.specs.declared.term.Term.{Term}
 use Rattle.gft_syntax.specs.declared.term.Term.TheOpen as F
 use Rattle.gft_model.specs.ConcreteTypes.{IsSubtype, equal, fewer_labels, tables, numbers, functions}
 use Rattle.gft_model.specs.ConcreteTyping.{is_record, is_type_form, is_table_expression, passes, Spine, applied_to, at_head, Fits, same, cut, sort, IsType, IsHead, Stands, a_parameter, Takes, takes_none, takes, Suits, Chosen, parameter_of, AreLabels, no_label, label, text_type, type_of_types, type_of_parameters, numbers_to, labels, table_over, function_from, pair_of, parameters_named, oper_named, definition_named, with_names, with_lets, Finds, Checks, ChecksLambda, body, binds, ChecksTable, cell, over, ChecksArguments, no_argument_left, next_argument, FindsAll, none_found, next_found, MembersFind, first_member, MembersCheck, no_member, member, BranchesFind, first_branch, BranchesCheck, no_branch, branch, FieldsHave, no_field, value_done, value_given, value_found, typed_done, typed_given, typed_alone, Defines, no_local, local, typed_local, variable, constructor_name, typed_oper, untyped_oper, alternative_alone, parameter_name, literal, no_words, append, glue, number, predef, projection, application, overloaded, selection, branch_over, branch_of, item_of, case_found, table_found, list_found, record_found, tuple_found, extension, typed, let_found, alternatives_found, variants_found, lambda, table_lambda, branches, branches_over, listed, record_given, tuple_given, let_given, case_given, alternatives_given, variants_given, empty_type, parameter_given, found, type_form}
 use Rattle.gft_model.specs.Items.{Item}
 use Rattle.gft_model.specs.PatternTyping.{Scope}
-use Rattle.gft_model.specs.TypeForms.{sort_type, tuple_locals, record_type}
+use Rattle.gft_model.specs.TypeForms.{form, sort_type, tuple_locals, record_type}
 use Rattle.gft_model.specs.Values.{extended}
 use Rattle.gft_model.proofs.PatternLaws.{fits-once, same-arguments}
 use Rattle.gft_model.proofs.TypeLaws.{type-once, parameter-once}
@@ -59,8 +59,8 @@ tag (F.Fields a p) = 27
 tag (F.Tuple a p) = 28
 tag (F.Typed a b p) = 29
 
-same-tag : {e f : Term} {l m : F.Term-F Term} → out-Term e ≡ l → e ≡ f → out-Term f ≡ m → tag l ≡ tag m
-same-tag h e k = ap tag (sym h ∙ ap out-Term e ∙ k)
+same-tag : {e f : Term} {l m : F.Term-F Term} → form e ≡ l → e ≡ f → form f ≡ m → tag l ≡ tag m
+same-tag h e k = ap tag (sym h ∙ ap form e ∙ k)
 
 eq-self : (n : ℕ) → (n == n) ≡ true
 eq-self n = search rules
@@ -69,26 +69,26 @@ apart-tags : (m n : ℕ) → (m == n) ≡ false → m ≡ n → ⊥
 apart-tags m n h e = apart (sym h ∙ (ap (λ (k : ℕ). m == k) (sym e) ∙ eq-self m))
 
 -- an application taken apart, in one way
-spine_is_app : {e f a : Term} {es : List Term} → Spine e [] f (a ∷ es) → (g : Term) × (b : Term) × (p : Place) × (out-Term e ≡ F.App g b p)
+spine_is_app : {e f a : Term} {es : List Term} → Spine e [] f (a ∷ es) → (g : Term) × (b : Term) × (p : Place) × (form e ≡ F.App g b p)
 spine_is_app (applied_to {f = g} {a = b} {place = p} h s) = (g, b, p, h)
 
 spine-once : {e d f g : Term} {es ds xs ys : List Term} → Spine e es f xs → Spine d ds g ys → e ≡ d → es ≡ ds → (f ≡ g) × (xs ≡ ys)
 spine-once (applied_to h s) (applied_to k r) e f = spine-once s r (cc) (cc)
-spine-once (applied_to h s) (at_head n) e f = absurd (n _ _ _ (ap out-Term (sym e) ∙ h))
-spine-once (at_head n) (applied_to k r) e f = absurd (n _ _ _ (ap out-Term e ∙ k))
+spine-once (applied_to h s) (at_head n) e f = absurd (n _ _ _ (ap form (sym e) ∙ h))
+spine-once (at_head n) (applied_to k r) e f = absurd (n _ _ _ (ap form e ∙ k))
 spine-once (at_head n) (at_head m) e f = (e, f)
 
-spine_ints : {e f a g b : Term} {es : List Term} {p q : Place} → Spine e [] f (a ∷ es) → out-Term e ≡ F.App g b p → out-Term g ≡ F.Sort Sort.Ints q → out-Term f ≡ F.Sort Sort.Ints q
+spine_ints : {e f a g b : Term} {es : List Term} {p q : Place} → Spine e [] f (a ∷ es) → form e ≡ F.App g b p → form g ≡ F.Sort Sort.Ints q → form f ≡ F.Sort Sort.Ints q
 spine_ints (applied_to h (applied_to k s)) e i = cc
 spine_ints (applied_to h (at_head n)) e i = cc
 
-apart-tables : {e f a b c d : Term} {p q : Place} → out-Term e ≡ F.Select a b p → out-Term f ≡ F.Select c d q → e ≡ f → is_table_expression (out-Term a) ≡ false → is_table_expression (out-Term c) ≡ true → ⊥
+apart-tables : {e f a b c d : Term} {p q : Place} → form e ≡ F.Select a b p → form f ≡ F.Select c d q → e ≡ f → is_table_expression (form a) ≡ false → is_table_expression (form c) ≡ true → ⊥
 apart-tables h k e i j = cc
 
-apart-heads : {e d f r : Term} {x y : List ℕ} {p q s : Place} → out-Term e ≡ F.Proj f x p → out-Term d ≡ F.Proj r y s → e ≡ d → out-Term f ≡ F.Sort Sort.Predef q → out-Term r ≡ F.Sort Sort.Predef q
+apart-heads : {e d f r : Term} {x y : List ℕ} {p q s : Place} → form e ≡ F.Proj f x p → form d ≡ F.Proj r y s → e ≡ d → form f ≡ F.Sort Sort.Predef q → form r ≡ F.Sort Sort.Predef q
 apart-heads h k e i = cc
 
-tuple-items : {e f : Term} {es ds : List Term} {p q : Place} → e ≡ f → out-Term e ≡ F.Tuple es p → out-Term f ≡ F.Tuple ds q → es ≡ ds
+tuple-items : {e f : Term} {es ds : List Term} {p q : Place} → e ≡ f → form e ≡ F.Tuple es p → form f ≡ F.Tuple ds q → es ≡ ds
 tuple-items e h k = cc
 
 same-extension : {S T U V : CType} {fs gs hs ks : List (List ℕ × CType)} → S ≡ U → T ≡ V → out-CType S ≡ C.Record fs → out-CType T ≡ C.Record gs → out-CType U ≡ C.Record hs → out-CType V ≡ C.Record ks →
@@ -141,7 +141,7 @@ no-fit_record same h = cc
 no-fit_record (cut n s) h = no-subtype_record s h
 no-fit_record sort h = let i = out-roll-CType C.ParamSort in cc
 
-passes-clash : {e f : Term} {S T : CType} {l : F.Term-F Term} → out-Term e ≡ l → e ≡ f → S ≡ T → passes l (out-CType S) ≡ true → passes (out-Term f) (out-CType T) ≡ false → ⊥
+passes-clash : {e f : Term} {S T : CType} {l : F.Term-F Term} → form e ≡ l → e ≡ f → S ≡ T → passes l (out-CType S) ≡ true → passes (form f) (out-CType T) ≡ false → ⊥
 passes-clash {l = l} h e s i j = cc
 
 same-names : {xs ys : List (List ℕ)} {T U : CType} {Γ Δ : Scope} → xs ≡ ys → T ≡ U → Γ ≡ Δ → with_names xs T Γ ≡ with_names ys U Δ
@@ -153,7 +153,7 @@ same-lets {es = es} {t = t} e f = ap (λ (xs : List (List (List ℕ) × LinTerm)
 
 module _ (items : List Item) where
   -- types that are applications or fields
-  ints_head : {d g b : Term} {T : CType} {p : Place} → IsType items d T → out-Term d ≡ F.App g b p → (q : Place) × (out-Term g ≡ F.Sort Sort.Ints q)
+  ints_head : {d g b : Term} {T : CType} {p : Place} → IsType items d T → form d ≡ F.App g b p → (q : Place) × (form g ≡ F.Sort Sort.Ints q)
   ints_head (text_type h) e = absurd (cc)
   ints_head (type_of_types h) e = absurd (cc)
   ints_head (type_of_parameters h) e = absurd (cc)
@@ -166,7 +166,7 @@ module _ (items : List Item) where
   ints_head (oper_named n h i j k l) e = absurd (cc)
   ints_head (definition_named n h i j k) e = absurd (cc)
 
-  fields_labels : {d : Term} {T : CType} {ls : List (Local Term)} {p : Place} → IsType items d T → out-Term d ≡ F.Fields ls p → (fs : List (List ℕ × CType)) × AreLabels items ls fs
+  fields_labels : {d : Term} {T : CType} {ls : List (Local Term)} {p : Place} → IsType items d T → form d ≡ F.Fields ls p → (fs : List (List ℕ × CType)) × AreLabels items ls fs
   fields_labels (text_type h) e = absurd (cc)
   fields_labels (type_of_types h) e = absurd (cc)
   fields_labels (type_of_parameters h) e = absurd (cc)
@@ -191,18 +191,18 @@ module _ (items : List Item) where
 
   no_ints : {e d f a : Term} {es : List Term} {T : CType} → Spine e [] f (a ∷ es) → IsHead items f → IsType items d T → e ≡ d → ⊥
   no_ints s h t e =
-      let x = spine_is_app s in let i = ints_head t (ap out-Term (sym e) ∙ x.3) in h.not_ints i.0 (spine_ints s x.3 i.1)
+      let x = spine_is_app s in let i = ints_head t (ap form (sym e) ∙ x.3) in h.not_ints i.0 (spine_ints s x.3 i.1)
 
-  no_ints_var : {e d f a : Term} {es : List Term} {T : CType} {w : Whole} {p : Place} → Spine e [] f (a ∷ es) → out-Term f ≡ F.Var (WholeName w) p → IsType items d T → e ≡ d → ⊥
+  no_ints_var : {e d f a : Term} {es : List Term} {T : CType} {w : Whole} {p : Place} → Spine e [] f (a ∷ es) → form f ≡ F.Var (WholeName w) p → IsType items d T → e ≡ d → ⊥
   no_ints_var s h t e =
-      let x = spine_is_app s in let i = ints_head t (ap out-Term (sym e) ∙ x.3) in let j = spine_ints s x.3 i.1 in cc
+      let x = spine_is_app s in let i = ints_head t (ap form (sym e) ∙ x.3) in let j = spine_ints s x.3 i.1 in cc
 
   no_record : {Γ : Scope} {e d : Term} {T : CType} {ls : List (Local Term)} {p : Place} {gs fs : List (List ℕ × CType)} {ts : List (List ℕ × LinTerm)} →
-      out-Term e ≡ F.Fields ls p → FieldsHave items Γ gs ls fs ts → is_type_form (out-Term d) ≡ true → IsType items d T → e ≡ d → ⊥
+      form e ≡ F.Fields ls p → FieldsHave items Γ gs ls fs ts → is_type_form (form d) ≡ true → IsType items d T → e ≡ d → ⊥
   no_record {ls = ls} {p = p} h f k t e =
-      let l = fields_labels t (ap out-Term (sym e) ∙ h) in
+      let l = fields_labels t (ap form (sym e) ∙ h) in
       let m = no-mix l.1 f refl in
-      let n : false ≡ true = ap (λ (xs : List (Local Term)). is_type_form (F.Fields xs p)) (sym m) ∙ ap is_type_form (sym h ∙ ap out-Term e) ∙ k in
+      let n : false ≡ true = ap (λ (xs : List (Local Term)). is_type_form (F.Fields xs p)) (sym m) ∙ ap is_type_form (sym h ∙ ap form e) ∙ k in
       apart n
 
   takes-once : {F G R S : CType} {As Bs : List CType} {t s u v : LinTerm} {us vs : List LinTerm} → Takes items F t As us R u → Takes items G s Bs vs S v → F ≡ G → t ≡ s → As ≡ Bs → us ≡ vs → (R ≡ S) × (u ≡ v)
@@ -252,9 +252,9 @@ module _ (items : List Item) where
   form_of (let_found {b = b} {ls = ls} {p = p} a0 a1 a2) = F.Let ls b p
   form_of (alternatives_found {a = a} {b = b} {p = p} a0 a1) = F.Alt a b p
   form_of (variants_found {es = es} {p = p} a0 a1) = F.Variants es p
-  form_of (type_form {e = e} a0 a1) = out-Term e
+  form_of (type_form {e = e} a0 a1) = form e
 
-  form_is : {Γ : Scope} {e : Term} {T : CType} {t : LinTerm} (d : Finds items Γ e T t) → out-Term e ≡ form_of d
+  form_is : {Γ : Scope} {e : Term} {T : CType} {t : LinTerm} (d : Finds items Γ e T t) → form e ≡ form_of d
   form_is (variable a0 a1) = a0
   form_is (constructor_name a0 a1 a2 a3) = a0
   form_is (typed_oper k a0 a1 a2) = a0
@@ -299,10 +299,10 @@ module _ (items : List Item) where
   check_form (alternatives_given {a = a} {b = b} {p = p} a0 a1) = F.Alt a b p
   check_form (variants_given {es = es} {p = p} a0 a1) = F.Variants es p
   check_form (empty_type {p = p} a0) = F.Fields [] p
-  check_form (parameter_given {w = w} {p = p} a0 a1) = F.Var (WholeName w) p
-  check_form (found {e = e} a0 a1 a2) = out-Term e
+  check_form (parameter_given {w = w} {p = p} a0 a1 a2 a3) = F.Var (WholeName w) p
+  check_form (found {e = e} a0 a1 a2) = form e
 
-  check_form_is : {Γ : Scope} {e : Term} {T : CType} {t : LinTerm} (d : Checks items Γ e T t) → out-Term e ≡ check_form d
+  check_form_is : {Γ : Scope} {e : Term} {T : CType} {t : LinTerm} (d : Checks items Γ e T t) → form e ≡ check_form d
   check_form_is (lambda a0 a1) = a0
   check_form_is (table_lambda a0 a1) = a0
   check_form_is (branches a0 a1 a2 a3) = a0
@@ -315,7 +315,7 @@ module _ (items : List Item) where
   check_form_is (alternatives_given a0 a1) = a0
   check_form_is (variants_given a0 a1) = a0
   check_form_is (empty_type a0) = a0
-  check_form_is (parameter_given a0 a1) = a0
+  check_form_is (parameter_given a0 a1 a2 a3) = a0
   check_form_is (found a0 a1 a2) = refl
 
   fields-empty : {Γ : Scope} {gs fs : List (List ℕ × CType)} {ls : List (Local Term)} {ts : List (List ℕ × LinTerm)} → FieldsHave items Γ gs ls fs ts → ls ≡ [] → fs ≡ []
@@ -327,8 +327,8 @@ module _ (items : List Item) where
   fields-empty (typed_given a0 a1 a2 a3 a4) e = cc
   fields-empty (typed_alone a0 a1 a2 a3 a4) e = cc
 
-  -- {} is found to be the empty record, and a parameter type's name to be a type
-  empty-found : {Γ : Scope} {f : Term} {T : CType} {t : LinTerm} {p : Place} → Finds items Γ f T t → out-Term f ≡ F.Fields [] p → T ≡ record_type []
+  -- {} is found to be the empty record
+  empty-found : {Γ : Scope} {f : Term} {T : CType} {t : LinTerm} {p : Place} → Finds items Γ f T t → form f ≡ F.Fields [] p → T ≡ record_type []
   empty-found (variable a0 a1) h = cc
   empty-found (constructor_name a0 a1 a2 a3) h = cc
   empty-found (typed_oper ak a0 a1 a2) h = cc
@@ -360,168 +360,136 @@ module _ (items : List Item) where
   empty-found (variants_found a0 a1) h = cc
   empty-found {p = p} (type_form a0 a1) h = let k : is_type_form (F.Fields [] p) ≡ true = ap is_type_form (sym h) ∙ a0 in absurd (apart k)
 
-  parameter-found : {Γ : Scope} {f : Term} {T : CType} {t : LinTerm} {w : Whole} {p : Place} {cs : List Constructor} → Finds items Γ f T t → out-Term f ≡ F.Var (WholeName w) p → Stands items w (a_parameter cs) → T ≡ sort_type
-  parameter-found (variable a0 a1) h i = cc
-  parameter-found (constructor_name a0 a1 a2 a3) h i = cc
-  parameter-found (typed_oper ak a0 a1 a2) h i = cc
-  parameter-found (untyped_oper ak a0 a1 a2) h i = cc
-  parameter-found (alternative_alone ak a0 a1 a2) h i = cc
-  parameter-found (parameter_name a0 a1) h i = refl
-  parameter-found (literal a0) h i = cc
-  parameter-found (no_words a0) h i = cc
-  parameter-found (append a0 a1 a2) h i = cc
-  parameter-found (glue a0 a1 a2) h i = cc
-  parameter-found (number a0) h i = cc
-  parameter-found (predef a0 a1 a2) h i = cc
-  parameter-found (projection a0 a1 a2 a3 a4) h i = cc
-  parameter-found (application a0 a1 a2 a3) h i = let x = (spine_is_app a0).3 in cc
-  parameter-found (overloaded ak a0 a1 a2 a3 a4) h i = let x = (spine_is_app a0).3 in cc
-  parameter-found (selection a0 a1 a2 a3 a4) h i = cc
-  parameter-found (branch_over a0 a1 a2 a3 a4 a5) h i = cc
-  parameter-found (branch_of a0 a1 a2 a3 a4) h i = cc
-  parameter-found (item_of a0 a1 a2 a3 a4 a5 a6) h i = cc
-  parameter-found (case_found a0 a1 a2 a3) h i = cc
-  parameter-found (table_found a0 a1 a2 a3 a4) h i = cc
-  parameter-found (list_found a0 a1 a2 a3 a4) h i = cc
-  parameter-found (record_found a0 a1) h i = cc
-  parameter-found (tuple_found a0 a1) h i = cc
-  parameter-found (extension a0 a1 a2 a3 a4) h i = cc
-  parameter-found (typed a0 a1 a2) h i = cc
-  parameter-found (let_found a0 a1 a2) h i = cc
-  parameter-found (alternatives_found a0 a1) h i = cc
-  parameter-found (variants_found a0 a1) h i = cc
-  parameter-found {w = w} {p = p} (type_form a0 a1) h i = refl
-
   mutual
     pub find-once : {Γ Δ : Scope} {e f : Term} {S T : CType} {t u : LinTerm} → Finds items Γ e S t → Finds items Δ f T u → Γ ≡ Δ → e ≡ f → (S ≡ T) × (t ≡ u)
     find-once (variable a0 a1) (variable b0 b1) g e = (cc, cc)
-    find-once (variable a0 a1) (type_form b0 b1) g e = let k : false ≡ true = ap is_type_form (sym a0 ∙ ap out-Term e) ∙ b0 in absurd (apart k)
+    find-once (variable a0 a1) (type_form b0 b1) g e = let k : false ≡ true = ap is_type_form (sym a0 ∙ ap form e) ∙ b0 in absurd (apart k)
     find-once (variable a0 a1) d g e = absurd (apart-tags _ _ refl (same-tag a0 e (form_is d)))
     find-once (constructor_name a0 a1 a2 a3) (constructor_name b0 b1 b2 b3) g e = let i = parameter-once items a2 b2 (cc) in let j = same-arguments a3 b3 i (cc) in (cc, cc)
     find-once (constructor_name a0 a1 a2 a3) (typed_oper bk b0 b1 b2) g e = (cc, cc)
     find-once (constructor_name a0 a1 a2 a3) (untyped_oper bk b0 b1 b2) g e = (cc, cc)
     find-once (constructor_name a0 a1 a2 a3) (alternative_alone bk b0 b1 b2) g e = (cc, cc)
     find-once (constructor_name a0 a1 a2 a3) (parameter_name b0 (parameter_of b1 b2 b3)) g e = (cc, cc)
-    find-once (constructor_name a0 a1 a2 a3) (type_form b0 b1) g e = let k : false ≡ true = ap is_type_form (sym a0 ∙ ap out-Term e) ∙ b0 in absurd (apart k)
+    find-once (constructor_name a0 a1 a2 a3) (type_form b0 b1) g e = let k : false ≡ true = ap is_type_form (sym a0 ∙ ap form e) ∙ b0 in absurd (apart k)
     find-once (constructor_name a0 a1 a2 a3) d g e = absurd (apart-tags _ _ refl (same-tag a0 e (form_is d)))
     find-once (typed_oper ak a0 a1 a2) (typed_oper bk b0 b1 b2) g e = let i = type-once items a2 b2 (cc) in (i, cc)
     find-once (typed_oper ak a0 a1 a2) (constructor_name b0 b1 b2 b3) g e = (cc, cc)
     find-once (typed_oper ak a0 a1 a2) (untyped_oper bk b0 b1 b2) g e = (cc, cc)
     find-once (typed_oper ak a0 a1 a2) (alternative_alone bk b0 b1 b2) g e = (cc, cc)
     find-once (typed_oper ak a0 a1 a2) (parameter_name b0 (parameter_of b1 b2 b3)) g e = (cc, cc)
-    find-once (typed_oper ak a0 a1 a2) (type_form b0 b1) g e = let k : false ≡ true = ap is_type_form (sym a0 ∙ ap out-Term e) ∙ b0 in absurd (apart k)
+    find-once (typed_oper ak a0 a1 a2) (type_form b0 b1) g e = let k : false ≡ true = ap is_type_form (sym a0 ∙ ap form e) ∙ b0 in absurd (apart k)
     find-once (typed_oper ak a0 a1 a2) d g e = absurd (apart-tags _ _ refl (same-tag a0 e (form_is d)))
     find-once (untyped_oper ak a0 a1 a2) (untyped_oper bk b0 b1 b2) g e = let i = find-once a2 b2 refl (cc) in (i.0, cc)
     find-once (untyped_oper ak a0 a1 a2) (constructor_name b0 b1 b2 b3) g e = (cc, cc)
     find-once (untyped_oper ak a0 a1 a2) (typed_oper bk b0 b1 b2) g e = (cc, cc)
     find-once (untyped_oper ak a0 a1 a2) (alternative_alone bk b0 b1 b2) g e = (cc, cc)
     find-once (untyped_oper ak a0 a1 a2) (parameter_name b0 (parameter_of b1 b2 b3)) g e = (cc, cc)
-    find-once (untyped_oper ak a0 a1 a2) (type_form b0 b1) g e = let k : false ≡ true = ap is_type_form (sym a0 ∙ ap out-Term e) ∙ b0 in absurd (apart k)
+    find-once (untyped_oper ak a0 a1 a2) (type_form b0 b1) g e = let k : false ≡ true = ap is_type_form (sym a0 ∙ ap form e) ∙ b0 in absurd (apart k)
     find-once (untyped_oper ak a0 a1 a2) d g e = absurd (apart-tags _ _ refl (same-tag a0 e (form_is d)))
     find-once (alternative_alone ak a0 a1 a2) (alternative_alone bk b0 b1 b2) g e = chosen-once a2 b2 (cc) refl refl
     find-once (alternative_alone ak a0 a1 a2) (constructor_name b0 b1 b2 b3) g e = (cc, cc)
     find-once (alternative_alone ak a0 a1 a2) (typed_oper bk b0 b1 b2) g e = (cc, cc)
     find-once (alternative_alone ak a0 a1 a2) (untyped_oper bk b0 b1 b2) g e = (cc, cc)
     find-once (alternative_alone ak a0 a1 a2) (parameter_name b0 (parameter_of b1 b2 b3)) g e = (cc, cc)
-    find-once (alternative_alone ak a0 a1 a2) (type_form b0 b1) g e = let k : false ≡ true = ap is_type_form (sym a0 ∙ ap out-Term e) ∙ b0 in absurd (apart k)
+    find-once (alternative_alone ak a0 a1 a2) (type_form b0 b1) g e = let k : false ≡ true = ap is_type_form (sym a0 ∙ ap form e) ∙ b0 in absurd (apart k)
     find-once (alternative_alone ak a0 a1 a2) d g e = absurd (apart-tags _ _ refl (same-tag a0 e (form_is d)))
     find-once (parameter_name a0 a1) (parameter_name b0 b1) g e = (refl, refl)
     find-once (parameter_name a0 (parameter_of a1 a2 a3)) (constructor_name b0 b1 b2 b3) g e = (cc, cc)
     find-once (parameter_name a0 (parameter_of a1 a2 a3)) (typed_oper bk b0 b1 b2) g e = (cc, cc)
     find-once (parameter_name a0 (parameter_of a1 a2 a3)) (untyped_oper bk b0 b1 b2) g e = (cc, cc)
     find-once (parameter_name a0 (parameter_of a1 a2 a3)) (alternative_alone bk b0 b1 b2) g e = (cc, cc)
-    find-once (parameter_name a0 a1) (type_form b0 b1) g e = let k : false ≡ true = ap is_type_form (sym a0 ∙ ap out-Term e) ∙ b0 in absurd (apart k)
+    find-once (parameter_name a0 a1) (type_form b0 b1) g e = let k : false ≡ true = ap is_type_form (sym a0 ∙ ap form e) ∙ b0 in absurd (apart k)
     find-once (parameter_name a0 a1) d g e = absurd (apart-tags _ _ refl (same-tag a0 e (form_is d)))
     find-once (literal a0) (literal b0) g e = (refl, cc)
-    find-once (literal a0) (type_form b0 b1) g e = let k : false ≡ true = ap is_type_form (sym a0 ∙ ap out-Term e) ∙ b0 in absurd (apart k)
+    find-once (literal a0) (type_form b0 b1) g e = let k : false ≡ true = ap is_type_form (sym a0 ∙ ap form e) ∙ b0 in absurd (apart k)
     find-once (literal a0) d g e = absurd (apart-tags _ _ refl (same-tag a0 e (form_is d)))
     find-once (no_words a0) (no_words b0) g e = (refl, refl)
-    find-once (no_words a0) (type_form b0 b1) g e = let k : false ≡ true = ap is_type_form (sym a0 ∙ ap out-Term e) ∙ b0 in absurd (apart k)
+    find-once (no_words a0) (type_form b0 b1) g e = let k : false ≡ true = ap is_type_form (sym a0 ∙ ap form e) ∙ b0 in absurd (apart k)
     find-once (no_words a0) d g e = absurd (apart-tags _ _ refl (same-tag a0 e (form_is d)))
     find-once (append a0 a1 a2) (append b0 b1 b2) g e = let i = check-once a1 b1 g (cc) refl in let j = check-once a2 b2 g (cc) refl in (refl, cc)
-    find-once (append a0 a1 a2) (type_form b0 b1) g e = let k : false ≡ true = ap is_type_form (sym a0 ∙ ap out-Term e) ∙ b0 in absurd (apart k)
+    find-once (append a0 a1 a2) (type_form b0 b1) g e = let k : false ≡ true = ap is_type_form (sym a0 ∙ ap form e) ∙ b0 in absurd (apart k)
     find-once (append a0 a1 a2) d g e = absurd (apart-tags _ _ refl (same-tag a0 e (form_is d)))
     find-once (glue a0 a1 a2) (glue b0 b1 b2) g e = let i = check-once a1 b1 g (cc) refl in let j = check-once a2 b2 g (cc) refl in (refl, cc)
-    find-once (glue a0 a1 a2) (type_form b0 b1) g e = let k : false ≡ true = ap is_type_form (sym a0 ∙ ap out-Term e) ∙ b0 in absurd (apart k)
+    find-once (glue a0 a1 a2) (type_form b0 b1) g e = let k : false ≡ true = ap is_type_form (sym a0 ∙ ap form e) ∙ b0 in absurd (apart k)
     find-once (glue a0 a1 a2) d g e = absurd (apart-tags _ _ refl (same-tag a0 e (form_is d)))
     find-once (number a0) (number b0) g e = (cc, cc)
-    find-once (number a0) (type_form b0 b1) g e = let k : false ≡ true = ap is_type_form (sym a0 ∙ ap out-Term e) ∙ b0 in absurd (apart k)
+    find-once (number a0) (type_form b0 b1) g e = let k : false ≡ true = ap is_type_form (sym a0 ∙ ap form e) ∙ b0 in absurd (apart k)
     find-once (number a0) d g e = absurd (apart-tags _ _ refl (same-tag a0 e (form_is d)))
     find-once (predef a0 a1 a2) (predef b0 b1 b2) g e = (refl, cc)
     find-once (predef a0 a1 a2) (projection b0 b1 b2 b3 b4) g e = absurd (b1 _ (apart-heads a0 b0 e a1))
-    find-once (predef a0 a1 a2) (type_form b0 b1) g e = let k : false ≡ true = ap is_type_form (sym a0 ∙ ap out-Term e) ∙ b0 in absurd (apart k)
+    find-once (predef a0 a1 a2) (type_form b0 b1) g e = let k : false ≡ true = ap is_type_form (sym a0 ∙ ap form e) ∙ b0 in absurd (apart k)
     find-once (predef a0 a1 a2) d g e = absurd (apart-tags _ _ refl (same-tag a0 e (form_is d)))
     find-once (projection a0 a1 a2 a3 a4) (projection b0 b1 b2 b3 b4) g e = let i = find-once a2 b2 g (cc) in (cc, cc)
     find-once (projection a0 a1 a2 a3 a4) (predef b0 b1 b2) g e = absurd (a1 _ (apart-heads b0 a0 (sym e) b1))
-    find-once (projection a0 a1 a2 a3 a4) (type_form b0 b1) g e = let k : false ≡ true = ap is_type_form (sym a0 ∙ ap out-Term e) ∙ b0 in absurd (apart k)
+    find-once (projection a0 a1 a2 a3 a4) (type_form b0 b1) g e = let k : false ≡ true = ap is_type_form (sym a0 ∙ ap form e) ∙ b0 in absurd (apart k)
     find-once (projection a0 a1 a2 a3 a4) d g e = absurd (apart-tags _ _ refl (same-tag a0 e (form_is d)))
     find-once (application a0 a1 a2 a3) (application b0 b1 b2 b3) g e = let s = spine-once a0 b0 e refl in let i = find-once a1 b1 g s.0 in arguments-once a3 b3 g i.0 i.1 s.1
-    find-once (application a0 a1 a2 a3) (overloaded bk b0 b1 b2 b3 b4) g e = let s = spine-once a0 b0 e refl in absurd (a2.not_overloaded _ _ (ap out-Term s.0 ∙ b1) b2)
+    find-once (application a0 a1 a2 a3) (overloaded bk b0 b1 b2 b3 b4) g e = let s = spine-once a0 b0 e refl in absurd (a2.not_overloaded _ _ (ap form s.0 ∙ b1) b2)
     find-once (application a0 a1 a2 a3) (type_form b0 b1) g e = absurd (no_ints a0 a2 b1 e)
     find-once (application a0 a1 a2 a3) d g e = absurd (apart-tags _ _ refl (same-tag (spine_is_app a0).3 e (form_is d)))
     find-once (overloaded ak a0 a1 a2 a3 a4) (overloaded bk b0 b1 b2 b3 b4) g e = let s = spine-once a0 b0 e refl in let i = all-once a3 b3 g s.1 in chosen-once a4 b4 (cc) i.0 i.1
-    find-once (overloaded ak a0 a1 a2 a3 a4) (application b0 b1 b2 b3) g e = let s = spine-once a0 b0 e refl in absurd (b2.not_overloaded _ _ (ap out-Term (sym s.0) ∙ a1) a2)
+    find-once (overloaded ak a0 a1 a2 a3 a4) (application b0 b1 b2 b3) g e = let s = spine-once a0 b0 e refl in absurd (b2.not_overloaded _ _ (ap form (sym s.0) ∙ a1) a2)
     find-once (overloaded ak a0 a1 a2 a3 a4) (type_form b0 b1) g e = absurd (no_ints_var a0 a1 b1 e)
     find-once (overloaded ak a0 a1 a2 a3 a4) d g e = absurd (apart-tags _ _ refl (same-tag (spine_is_app a0).3 e (form_is d)))
     find-once (selection a0 a1 a2 a3 a4) (selection b0 b1 b2 b3 b4) g e = let i = find-once a2 b2 g (cc) in let j = check-once a4 b4 g (cc) (cc) in (cc, cc)
     find-once (selection a0 a1 a2 a3 a4) (branch_over b0 b1 b2 b3 b4 b5) g e = absurd (apart-tables a0 b0 e a1 (ap is_table_expression b1))
     find-once (selection a0 a1 a2 a3 a4) (branch_of b0 b1 b2 b3 b4) g e = absurd (apart-tables a0 b0 e a1 (ap is_table_expression b1))
     find-once (selection a0 a1 a2 a3 a4) (item_of b0 b1 b2 b3 b4 b5 b6) g e = absurd (apart-tables a0 b0 e a1 (ap is_table_expression b1))
-    find-once (selection a0 a1 a2 a3 a4) (type_form b0 b1) g e = let k : false ≡ true = ap is_type_form (sym a0 ∙ ap out-Term e) ∙ b0 in absurd (apart k)
+    find-once (selection a0 a1 a2 a3 a4) (type_form b0 b1) g e = let k : false ≡ true = ap is_type_form (sym a0 ∙ ap form e) ∙ b0 in absurd (apart k)
     find-once (selection a0 a1 a2 a3 a4) d g e = absurd (apart-tags _ _ refl (same-tag a0 e (form_is d)))
     find-once (branch_over a0 a1 a2 a3 a4 a5) (branch_over b0 b1 b2 b3 b4 b5) g e = let i = type-once items a2 b2 (cc) in let j = branches-found a3 b3 g i (cc) in let l = check-once a5 b5 g (cc) i in (j.0, cc)
     find-once (branch_over a0 a1 a2 a3 a4 a5) (selection b0 b1 b2 b3 b4) g e = absurd (apart-tables b0 a0 (sym e) b1 (ap is_table_expression a1))
     find-once (branch_over a0 a1 a2 a3 a4 a5) (branch_of b0 b1 b2 b3 b4) g e = (cc, cc)
     find-once (branch_over a0 a1 a2 a3 a4 a5) (item_of b0 b1 b2 b3 b4 b5 b6) g e = (cc, cc)
-    find-once (branch_over a0 a1 a2 a3 a4 a5) (type_form b0 b1) g e = let k : false ≡ true = ap is_type_form (sym a0 ∙ ap out-Term e) ∙ b0 in absurd (apart k)
+    find-once (branch_over a0 a1 a2 a3 a4 a5) (type_form b0 b1) g e = let k : false ≡ true = ap is_type_form (sym a0 ∙ ap form e) ∙ b0 in absurd (apart k)
     find-once (branch_over a0 a1 a2 a3 a4 a5) d g e = absurd (apart-tags _ _ refl (same-tag a0 e (form_is d)))
     find-once (branch_of a0 a1 a2 a3 a4) (branch_of b0 b1 b2 b3 b4) g e = let i = find-once a2 b2 g (cc) in let j = branches-found a3 b3 g i.0 (cc) in (j.0, cc)
     find-once (branch_of a0 a1 a2 a3 a4) (selection b0 b1 b2 b3 b4) g e = absurd (apart-tables b0 a0 (sym e) b1 (ap is_table_expression a1))
     find-once (branch_of a0 a1 a2 a3 a4) (branch_over b0 b1 b2 b3 b4 b5) g e = (cc, cc)
     find-once (branch_of a0 a1 a2 a3 a4) (item_of b0 b1 b2 b3 b4 b5 b6) g e = (cc, cc)
-    find-once (branch_of a0 a1 a2 a3 a4) (type_form b0 b1) g e = let k : false ≡ true = ap is_type_form (sym a0 ∙ ap out-Term e) ∙ b0 in absurd (apart k)
+    find-once (branch_of a0 a1 a2 a3 a4) (type_form b0 b1) g e = let k : false ≡ true = ap is_type_form (sym a0 ∙ ap form e) ∙ b0 in absurd (apart k)
     find-once (branch_of a0 a1 a2 a3 a4) d g e = absurd (apart-tags _ _ refl (same-tag a0 e (form_is d)))
     find-once (item_of a0 a1 a2 a3 a4 a5 a6) (item_of b0 b1 b2 b3 b4 b5 b6) g e = let i = type-once items a2 b2 (cc) in let j = members-found a4 b4 g (cc) in let l = check-once a6 b6 g (cc) i in (j.0, cc)
     find-once (item_of a0 a1 a2 a3 a4 a5 a6) (selection b0 b1 b2 b3 b4) g e = absurd (apart-tables b0 a0 (sym e) b1 (ap is_table_expression a1))
     find-once (item_of a0 a1 a2 a3 a4 a5 a6) (branch_over b0 b1 b2 b3 b4 b5) g e = (cc, cc)
     find-once (item_of a0 a1 a2 a3 a4 a5 a6) (branch_of b0 b1 b2 b3 b4) g e = (cc, cc)
-    find-once (item_of a0 a1 a2 a3 a4 a5 a6) (type_form b0 b1) g e = let k : false ≡ true = ap is_type_form (sym a0 ∙ ap out-Term e) ∙ b0 in absurd (apart k)
+    find-once (item_of a0 a1 a2 a3 a4 a5 a6) (type_form b0 b1) g e = let k : false ≡ true = ap is_type_form (sym a0 ∙ ap form e) ∙ b0 in absurd (apart k)
     find-once (item_of a0 a1 a2 a3 a4 a5 a6) d g e = absurd (apart-tags _ _ refl (same-tag a0 e (form_is d)))
     find-once (case_found a0 a1 a2 a3) (case_found b0 b1 b2 b3) g e = let i = find-once a1 b1 g (cc) in let j = branches-found a2 b2 g i.0 (cc) in (j.0, cc)
-    find-once (case_found a0 a1 a2 a3) (type_form b0 b1) g e = let k : false ≡ true = ap is_type_form (sym a0 ∙ ap out-Term e) ∙ b0 in absurd (apart k)
+    find-once (case_found a0 a1 a2 a3) (type_form b0 b1) g e = let k : false ≡ true = ap is_type_form (sym a0 ∙ ap form e) ∙ b0 in absurd (apart k)
     find-once (case_found a0 a1 a2 a3) d g e = absurd (apart-tags _ _ refl (same-tag a0 e (form_is d)))
     find-once (table_found a0 a1 a2 a3 a4) (table_found b0 b1 b2 b3 b4) g e = let i = type-once items a1 b1 (cc) in let j = branches-found a3 b3 g i (cc) in (cc, cc)
-    find-once (table_found a0 a1 a2 a3 a4) (type_form b0 b1) g e = let k : false ≡ true = ap is_type_form (sym a0 ∙ ap out-Term e) ∙ b0 in absurd (apart k)
+    find-once (table_found a0 a1 a2 a3 a4) (type_form b0 b1) g e = let k : false ≡ true = ap is_type_form (sym a0 ∙ ap form e) ∙ b0 in absurd (apart k)
     find-once (table_found a0 a1 a2 a3 a4) d g e = absurd (apart-tags _ _ refl (same-tag a0 e (form_is d)))
     find-once (list_found a0 a1 a2 a3 a4) (list_found b0 b1 b2 b3 b4) g e = let i = type-once items a1 b1 (cc) in let j = members-found a3 b3 g (cc) in (cc, cc)
-    find-once (list_found a0 a1 a2 a3 a4) (type_form b0 b1) g e = let k : false ≡ true = ap is_type_form (sym a0 ∙ ap out-Term e) ∙ b0 in absurd (apart k)
+    find-once (list_found a0 a1 a2 a3 a4) (type_form b0 b1) g e = let k : false ≡ true = ap is_type_form (sym a0 ∙ ap form e) ∙ b0 in absurd (apart k)
     find-once (list_found a0 a1 a2 a3 a4) d g e = absurd (apart-tags _ _ refl (same-tag a0 e (form_is d)))
     find-once (record_found a0 a1) (record_found b0 b1) g e = let i = fields-have a1 b1 g refl (cc) in (cc, cc)
     find-once (record_found a0 a1) (type_form b0 b1) g e = absurd (no_record a0 a1 b0 b1 e)
     find-once (record_found a0 a1) d g e = absurd (apart-tags _ _ refl (same-tag a0 e (form_is d)))
     find-once (tuple_found a0 a1) (tuple_found b0 b1) g e = let k : _ ≡ _ = tuple-items e a0 b0 in let i = fields-have a1 b1 g refl (ap (tuple_locals 0) k) in (cc, cc)
-    find-once (tuple_found a0 a1) (type_form b0 b1) g e = let k : false ≡ true = ap is_type_form (sym a0 ∙ ap out-Term e) ∙ b0 in absurd (apart k)
+    find-once (tuple_found a0 a1) (type_form b0 b1) g e = let k : false ≡ true = ap is_type_form (sym a0 ∙ ap form e) ∙ b0 in absurd (apart k)
     find-once (tuple_found a0 a1) d g e = absurd (apart-tags _ _ refl (same-tag a0 e (form_is d)))
     find-once (extension a0 a1 a2 a3 a4) (extension b0 b1 b2 b3 b4) g e = let i = find-once a1 b1 g (cc) in let j = find-once a3 b3 g (cc) in (same-extension i.0 j.0 a2 a4 b2 b4, cc)
-    find-once (extension a0 a1 a2 a3 a4) (type_form b0 b1) g e = let k : false ≡ true = ap is_type_form (sym a0 ∙ ap out-Term e) ∙ b0 in absurd (apart k)
+    find-once (extension a0 a1 a2 a3 a4) (type_form b0 b1) g e = let k : false ≡ true = ap is_type_form (sym a0 ∙ ap form e) ∙ b0 in absurd (apart k)
     find-once (extension a0 a1 a2 a3 a4) d g e = absurd (apart-tags _ _ refl (same-tag a0 e (form_is d)))
     find-once (typed a0 a1 a2) (typed b0 b1 b2) g e = let i = type-once items a1 b1 (cc) in let j = check-once a2 b2 g (cc) i in (i, j)
-    find-once (typed a0 a1 a2) (type_form b0 b1) g e = let k : false ≡ true = ap is_type_form (sym a0 ∙ ap out-Term e) ∙ b0 in absurd (apart k)
+    find-once (typed a0 a1 a2) (type_form b0 b1) g e = let k : false ≡ true = ap is_type_form (sym a0 ∙ ap form e) ∙ b0 in absurd (apart k)
     find-once (typed a0 a1 a2) d g e = absurd (apart-tags _ _ refl (same-tag a0 e (form_is d)))
     find-once (let_found a0 a1 a2) (let_found b0 b1 b2) g e = let i = defines-once a1 b1 g (cc) in let j = find-once a2 b2 i.0 (cc) in (j.0, cc)
-    find-once (let_found a0 a1 a2) (type_form b0 b1) g e = let k : false ≡ true = ap is_type_form (sym a0 ∙ ap out-Term e) ∙ b0 in absurd (apart k)
+    find-once (let_found a0 a1 a2) (type_form b0 b1) g e = let k : false ≡ true = ap is_type_form (sym a0 ∙ ap form e) ∙ b0 in absurd (apart k)
     find-once (let_found a0 a1 a2) d g e = absurd (apart-tags _ _ refl (same-tag a0 e (form_is d)))
     find-once (alternatives_found a0 a1) (alternatives_found b0 b1) g e = let i = members-found a1 b1 g (cc) in (i.0, cc)
-    find-once (alternatives_found a0 a1) (type_form b0 b1) g e = let k : false ≡ true = ap is_type_form (sym a0 ∙ ap out-Term e) ∙ b0 in absurd (apart k)
+    find-once (alternatives_found a0 a1) (type_form b0 b1) g e = let k : false ≡ true = ap is_type_form (sym a0 ∙ ap form e) ∙ b0 in absurd (apart k)
     find-once (alternatives_found a0 a1) d g e = absurd (apart-tags _ _ refl (same-tag a0 e (form_is d)))
     find-once (variants_found a0 a1) (variants_found b0 b1) g e = let i = members-found a1 b1 g (cc) in (i.0, cc)
-    find-once (variants_found a0 a1) (type_form b0 b1) g e = let k : false ≡ true = ap is_type_form (sym a0 ∙ ap out-Term e) ∙ b0 in absurd (apart k)
+    find-once (variants_found a0 a1) (type_form b0 b1) g e = let k : false ≡ true = ap is_type_form (sym a0 ∙ ap form e) ∙ b0 in absurd (apart k)
     find-once (variants_found a0 a1) d g e = absurd (apart-tags _ _ refl (same-tag a0 e (form_is d)))
     find-once (type_form a0 a1) (type_form b0 b1) g e = (refl, refl)
     find-once (type_form a0 a1) (application b0 b1 b2 b3) g e = absurd (no_ints b0 b2 a1 (sym e))
     find-once (type_form a0 a1) (overloaded bk b0 b1 b2 b3 b4) g e = absurd (no_ints_var b0 b1 a1 (sym e))
     find-once (type_form a0 a1) (record_found b0 b1) g e = absurd (no_record b0 b1 a0 a1 (sym e))
-    find-once (type_form a0 a1) d g e = let k : is_type_form (form_of d) ≡ true = ap is_type_form (sym (form_is d) ∙ ap out-Term (sym e)) ∙ a0 in absurd (apart k)
+    find-once (type_form a0 a1) d g e = let k : is_type_form (form_of d) ≡ true = ap is_type_form (sym (form_is d) ∙ ap form (sym e)) ∙ a0 in absurd (apart k)
 
     pub check-once : {Γ Δ : Scope} {e f : Term} {S T : CType} {t u : LinTerm} → Checks items Γ e S t → Checks items Δ f T u → Γ ≡ Δ → e ≡ f → S ≡ T → t ≡ u
     check-once (found a0 a1 a2) (found b0 b1 b2) g e s = let i = find-once a1 b1 g e in fits-same a2 b2 i.0 s i.1
@@ -571,14 +539,14 @@ module _ (items : List Item) where
     check-once (variants_given a0 a1) (found b0 b1 b2) g e s = absurd (passes-clash a0 e s refl b0)
     check-once (variants_given a0 a1) d g e s = absurd (apart-tags _ _ refl (same-tag a0 e (check_form_is d)))
     check-once (empty_type a0) (empty_type b0) g e s = refl
-    check-once (found a0 a1 a2) (empty_type b0) g e s = let i = empty-found a1 (ap out-Term e ∙ b0) in absurd (no-fit_record a2 (ap out-CType i ∙ out-roll-CType (C.Record []), ap out-CType s ∙ out-roll-CType C.TypeSort))
-    check-once (empty_type a0) (found b0 b1 b2) g e s = let i = empty-found b1 (ap out-Term (sym e) ∙ a0) in absurd (no-fit_record b2 (ap out-CType i ∙ out-roll-CType (C.Record []), ap out-CType (sym s) ∙ out-roll-CType C.TypeSort))
+    check-once (found a0 a1 a2) (empty_type b0) g e s = let i = empty-found a1 (ap form e ∙ b0) in absurd (no-fit_record a2 (ap out-CType i ∙ out-roll-CType (C.Record []), ap out-CType s ∙ out-roll-CType C.TypeSort))
+    check-once (empty_type a0) (found b0 b1 b2) g e s = let i = empty-found b1 (ap form (sym e) ∙ a0) in absurd (no-fit_record b2 (ap out-CType i ∙ out-roll-CType (C.Record []), ap out-CType (sym s) ∙ out-roll-CType C.TypeSort))
     check-once (empty_type a0) (record_given b0 b1 b2 b3) g e s = let i = out-roll-CType C.TypeSort in cc
     check-once (empty_type a0) d g e s = absurd (apart-tags _ _ refl (same-tag a0 e (check_form_is d)))
-    check-once (parameter_given a0 a1) (parameter_given b0 b1) g e s = refl
-    check-once (found a0 a1 a2) (parameter_given b0 (parameter_of b1 b2 b3)) g e s = let i = parameter-found a1 (ap out-Term e ∙ b0) b1 in absurd (no-fit a2 (ap out-CType i ∙ out-roll-CType C.TypeSort, ap out-CType s ∙ out-roll-CType C.ParamSort))
-    check-once (parameter_given a0 (parameter_of a1 a2 a3)) (found b0 b1 b2) g e s = let i = parameter-found b1 (ap out-Term (sym e) ∙ a0) a1 in absurd (no-fit b2 (ap out-CType i ∙ out-roll-CType C.TypeSort, ap out-CType (sym s) ∙ out-roll-CType C.ParamSort))
-    check-once (parameter_given a0 a1) d g e s = absurd (apart-tags _ _ refl (same-tag a0 e (check_form_is d)))
+    check-once (parameter_given a0 a1 a2 a3) (parameter_given b0 b1 b2 b3) g e s = (find-once a1 b1 g e).1
+    check-once (found a0 a1 a2) (parameter_given b0 b1 b2 b3) g e s = let i = find-once a1 b1 g e in absurd (no-fit a2 (ap out-CType i.0 ∙ out-roll-CType C.TypeSort, ap out-CType s ∙ out-roll-CType C.ParamSort))
+    check-once (parameter_given a0 a1 a2 a3) (found b0 b1 b2) g e s = let i = find-once a1 b1 g e in absurd (no-fit b2 (ap out-CType (sym i.0) ∙ out-roll-CType C.TypeSort, ap out-CType (sym s) ∙ out-roll-CType C.ParamSort))
+    check-once (parameter_given a0 a1 a2 a3) d g e s = absurd (apart-tags _ _ refl (same-tag a0 e (check_form_is d)))
 
     lambda-once : {Γ Δ : Scope} {xs ys : List Bind} {b c : Term} {S T : CType} {t u : LinTerm} → ChecksLambda items Γ xs b S t → ChecksLambda items Δ ys c T u → Γ ≡ Δ → xs ≡ ys → b ≡ c → S ≡ T → t ≡ u
     lambda-once (body a) (body b) g f e s = check-once a b g e s

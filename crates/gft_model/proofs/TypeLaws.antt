@@ -8,10 +8,11 @@ use Rattle.gft_syntax.specs.declared.reference.Reference.TheVariants.{Whole as W
 use Rattle.gft_syntax.specs.declared.reference.Whole.{Whole}
 use Rattle.gft_syntax.specs.declared.term.Local.{Local}
 use Rattle.gft_syntax.specs.declared.term.Sort.TheVariants as Sort
-use Rattle.gft_syntax.specs.declared.term.Term.{Term, out-Term}
+use Rattle.gft_syntax.specs.declared.term.Term.{Term}
 use Rattle.gft_syntax.specs.declared.term.Term.TheOpen as F
 use Rattle.gft_model.specs.ConcreteTyping.{IsType, text_type, type_of_types, type_of_parameters, numbers_to, labels, table_over, function_from, pair_of, parameters_named, oper_named, definition_named, IsParameter, parameter_of, AreConstructors, no_constructor, constructor, AreArguments, no_argument, arguments, AreLabels, no_label, label, AreFactors, last_factor, next_factor}
 use Rattle.gft_model.specs.Items.{Item}
+use Rattle.gft_model.specs.TypeForms.{form}
 
 -- a type is determined by its layer
 pub same-layer : {T U : CType} → out-CType T ≡ out-CType U → T ≡ U
@@ -46,7 +47,7 @@ module _ (items : List Item) where
   form_of (oper_named {w = w} n {p = p} h i j k l) = F.Var (WholeName w) p
   form_of (definition_named {w = w} n {p = p} h i j k) = F.Var (WholeName w) p
 
-  form_is : {e : Term} {T : CType} (d : IsType items e T) → out-Term e ≡ form_of d
+  form_is : {e : Term} {T : CType} (d : IsType items e T) → form e ≡ form_of d
   form_is (text_type h) = h
   form_is (type_of_types h) = h
   form_is (type_of_parameters h) = h
@@ -118,6 +119,6 @@ module _ (items : List Item) where
 
     factors-once : {e f : Term} {Ts Us : List CType} → AreFactors items e Ts → AreFactors items f Us → e ≡ f → Ts ≡ Us
     factors-once (last_factor a1 a2 a3) (last_factor b1 b2 b3) e = let i = type-once a2 b2 e in cc
-    factors-once (last_factor a1 a2 a3) (next_factor b1 b2 b3 b4) e = absurd (a1 _ _ _ (ap out-Term e ∙ b1))
-    factors-once (next_factor a1 a2 a3 a4) (last_factor b1 b2 b3) e = absurd (b1 _ _ _ (ap out-Term (sym e) ∙ a1))
+    factors-once (last_factor a1 a2 a3) (next_factor b1 b2 b3 b4) e = absurd (a1 _ _ _ (ap form e ∙ b1))
+    factors-once (next_factor a1 a2 a3 a4) (last_factor b1 b2 b3) e = absurd (b1 _ _ _ (ap form (sym e) ∙ a1))
     factors-once (next_factor a1 a2 a3 a4) (next_factor b1 b2 b3 b4) e = let i = factors-once a2 b2 (cc) in let j = type-once a3 b3 (cc) in cc

@@ -5,14 +5,14 @@ use Rattle.gft_core.specs.declared.place.Place.{Place}
 use Rattle.gft_syntax.specs.declared.ctype.CType.{CType, out-CType}
 use Rattle.gft_syntax.specs.declared.linear.LinTerm.{LinTerm}
 use Rattle.gft_syntax.specs.declared.linear.LinTerm.TheOpen as L
-use Rattle.gft_syntax.specs.declared.term.Term.{Term, out-Term, roll-Term}
+use Rattle.gft_syntax.specs.declared.term.Term.{Term, roll-Term}
 use Rattle.gft_syntax.specs.declared.term.Term.TheOpen as F
-use Rattle.gft_syntax.specs.declared.term.Term.TheViews.{out-roll-Term}
 use Rattle.gft_core.specs.Words.{words_of}
 use Rattle.gft_model.specs.ConcreteTyping.{Finds, Checks, found, append, literal, same, passes, is_type_form, Spine, applied_to, variable, constructor_name, typed_oper, untyped_oper, alternative_alone, parameter_name, type_form, no_words, glue, number, predef, projection, application, overloaded, selection, branch_over, branch_of, item_of, case_found, table_found, list_found, record_found, tuple_found, extension, typed, let_found, alternatives_found, variants_found}
 use Rattle.gft_model.specs.Items.{Item}
 use Rattle.gft_model.specs.PatternTyping.{Scope}
-use Rattle.gft_model.specs.TypeForms.{str_type, number_type, made}
+use Rattle.gft_model.proofs.Computing.{form-roll}
+use Rattle.gft_model.specs.TypeForms.{form, str_type, number_type, made}
 
 abbrev nowhere : Place
 nowhere = record { file = 0; line = 1; col = 1 }
@@ -26,21 +26,21 @@ words w = made (L.Words (words_of w))
 -- a literal fits Str
 literal_fits : (items : List Item) (w : List ℕ) → Checks items [] (word w) str_type (words w)
 literal_fits items w =
-    found (ap (λ d. passes d (out-CType str_type)) (out-roll-Term (F.Lit w nowhere))) (literal (out-roll-Term (F.Lit w nowhere))) same
+    found (ap (λ d. passes d (out-CType str_type)) (form-roll (F.Lit w nowhere))) (literal (form-roll (F.Lit w nowhere))) same
 
 pub append_is_str : (items : List Item) →
     Finds items [] (roll-Term (F.Concat (word (codes "a")) (word (codes "b")) nowhere)) str_type (made (L.Concat (words (codes "a")) (words (codes "b"))))
-append_is_str items = append (out-roll-Term _) (literal_fits items (codes "a")) (literal_fits items (codes "b"))
+append_is_str items = append (form-roll _) (literal_fits items (codes "a")) (literal_fits items (codes "b"))
 
 -- a number is no application
-no_spine : {e f a : Term} {es : List Term} (n : ℕ) (p : Place) → out-Term e ≡ F.Num n p → Spine e [] f (a ∷ es) → ⊥
+no_spine : {e f a : Term} {es : List Term} (n : ℕ) (p : Place) → form e ≡ F.Num n p → Spine e [] f (a ∷ es) → ⊥
 no_spine n p h (applied_to k s) = cc
 
 no_type_form : (d : F.Term-F Term) (n : ℕ) (p : Place) → d ≡ F.Num n p → is_type_form d ≡ true → ⊥
 no_type_form d n p h k = let e : false ≡ true = ap is_type_form (sym h) ∙ k in cc
 
 -- the type that is found for a number
-pub numbers_only : (items : List Item) {Γ : Scope} {e : Term} {T : CType} {t : LinTerm} (n : ℕ) (p : Place) → out-Term e ≡ F.Num n p → Finds items Γ e T t → T ≡ number_type n
+pub numbers_only : (items : List Item) {Γ : Scope} {e : Term} {T : CType} {t : LinTerm} (n : ℕ) (p : Place) → form e ≡ F.Num n p → Finds items Γ e T t → T ≡ number_type n
 numbers_only items n p h (variable k a) = cc
 numbers_only items n p h (constructor_name k a b c) = cc
 numbers_only items n p h (typed_oper j k a b) = cc

@@ -20,14 +20,14 @@ use Rattle.gft_syntax.specs.declared.term.Case.{Case}
 use Rattle.gft_syntax.specs.declared.term.Local.{Local}
 use Rattle.gft_syntax.specs.declared.term.Local.TheVariants.{Value, Label, TypedValue}
 use Rattle.gft_syntax.specs.declared.term.Sort.TheVariants as Sort-V
-use Rattle.gft_syntax.specs.declared.term.Term.{Term, out-Term}
+use Rattle.gft_syntax.specs.declared.term.Term.{Term}
 use Rattle.gft_syntax.specs.declared.term.Term.TheOpen as Term-F
 use Rattle.gft_syntax.specs.Terms.{Layer}
 use Rattle.gft_model.specs.ConcreteTypes.{field_of, is_finite, count_of, values_of, IsSubtype}
 use Rattle.gft_model.specs.Items.{Item, parameter_type, bare_parameter, oper, alternative, lincat, lin, lindef, linref}
 use Rattle.gft_model.specs.Matching.{same_whole, parameter, match_of, is_matched}
 use Rattle.gft_model.specs.PatternTyping.{Scope, PatternFits, Constructs}
-use Rattle.gft_model.specs.TypeForms.{str_type, number_type, record_type, table_type, functions, sort_type, sort_param, tuple_fields, tuple_locals, made, no_value, bound, with_bound, bound_pattern, constructor_term, predef_type, predef_term, predef_named}
+use Rattle.gft_model.specs.TypeForms.{form, str_type, number_type, record_type, table_type, functions, sort_type, sort_param, tuple_fields, tuple_locals, made, no_value, bound, with_bound, bound_pattern, constructor_term, predef_type, predef_term, predef_named}
 use Rattle.gft_model.specs.Values.{extended}
 
 -- a type of data: no function type. Functions stand nowhere else but in opers and what they give
@@ -77,22 +77,7 @@ passes (Term-F.TableOf P cs place) T = true
 passes (Term-F.TableList P es place) T = true
 passes (Term-F.Fields ls place) T = is_record T
 passes (Term-F.Tuple es place) T = is_record T
-passes (Term-F.Arrow xs a b place) T = false
-passes (Term-F.TabType a b place) T = false
-passes (Term-F.Concat a b place) T = false
-passes (Term-F.Glue a b place) T = false
-passes (Term-F.Select a b place) T = false
-passes (Term-F.Extend a b place) T = false
-passes (Term-F.Pair a b place) T = false
-passes (Term-F.App f a place) T = false
-passes (Term-F.Proj e x place) T = false
-passes (Term-F.Var r place) T = false
-passes (Term-F.Lit t place) T = false
-passes (Term-F.Num n place) T = false
-passes (Term-F.Empty place) T = false
-passes (Term-F.ListCat r place) T = false
-passes (Term-F.Sort s place) T = false
-passes (Term-F.Typed e t place) T = false
+passes d T = false
 
 -- a table expression: one that stands on the left of ! is selected from directly
 abbrev pub is_table_expression : Layer → Bool
@@ -127,9 +112,9 @@ with_lets (d ∷ ds) t = made (Lin-F.Let d.0 d.1 (with_lets ds t))
 -- an application taken apart: its head, which is no application, and its arguments in order
 pub data Spine : Term → List Term → Term → List Term → Type 0 where
   applied_to : {e f a g : Term} {place : Place} {es bs : List Term} →
-      out-Term e ≡ Term-F.App f a place → Spine f (a ∷ es) g bs → Spine e es g bs
+      form e ≡ Term-F.App f a place → Spine f (a ∷ es) g bs → Spine e es g bs
   at_head : {e : Term} {es : List Term} → ((f a : Term) (place : Place) →
-      ¬ (out-Term e ≡ Term-F.App f a place)) → Spine e es e es
+      ¬ (form e ≡ Term-F.App f a place)) → Spine e es e es
 
 -- what a whole name is in a grammar: a parameter type, one of its constructors, an oper with its number,
 -- its type and its definition, an overload, or nothing
@@ -149,13 +134,9 @@ standing_from k [] w = nothing
 standing_from k (parameter_type v cs ∷ is) w =
     if same_whole w v then a_parameter cs
     else if is_constructor w v cs then a_constructor v cs else standing_from (suc k) is w
-standing_from k (bare_parameter v ∷ is) w = standing_from (suc k) is w
 standing_from k (oper v T d ∷ is) w = if same_whole w v then an_oper k T d else standing_from (suc k) is w
-standing_from k (alternative v T d ∷ is) w = if same_whole w v then an_overload else standing_from (suc k) is w
-standing_from k (lincat l v e ∷ is) w = standing_from (suc k) is w
-standing_from k (lin l v e ∷ is) w = standing_from (suc k) is w
-standing_from k (lindef l v e ∷ is) w = standing_from (suc k) is w
-standing_from k (linref l v e ∷ is) w = standing_from (suc k) is w
+standing_from k (alternative v T xs D d ∷ is) w = if same_whole w v then an_overload else standing_from (suc k) is w
+standing_from k (i ∷ is) w = standing_from (suc k) is w
 
 module _ (items : List Item) where
   -- the item of that number
@@ -169,33 +150,33 @@ module _ (items : List Item) where
   mutual
     -- the term, where a type must stand, is the type
     pub data IsType : Term → CType → Type 0 where
-      text_type : {e : Term} {place : Place} → out-Term e ≡ Term-F.Sort Sort-V.Str place →
+      text_type : {e : Term} {place : Place} → form e ≡ Term-F.Sort Sort-V.Str place →
           IsType e str_type
-      type_of_types : {e : Term} {place : Place} → out-Term e ≡ Term-F.Sort Sort-V.TypeSort place →
+      type_of_types : {e : Term} {place : Place} → form e ≡ Term-F.Sort Sort-V.TypeSort place →
           IsType e sort_type
       type_of_parameters : {e : Term} {place : Place} →
-          out-Term e ≡ Term-F.Sort Sort-V.ParamSort place → IsType e sort_param
-      numbers_to : {e f a : Term} {n : ℕ} {p q r : Place} → out-Term e ≡ Term-F.App f a p →
-          out-Term f ≡ Term-F.Sort Sort-V.Ints q → out-Term a ≡ Term-F.Num n r → n + 1 ≤ most_values →
+          form e ≡ Term-F.Sort Sort-V.ParamSort place → IsType e sort_param
+      numbers_to : {e f a : Term} {n : ℕ} {p q r : Place} → form e ≡ Term-F.App f a p →
+          form f ≡ Term-F.Sort Sort-V.Ints q → form a ≡ Term-F.Num n r → n + 1 ≤ most_values →
           IsType e (number_type n)
       labels : {e : Term} {ls : List (Local Term)} {p : Place} {fs : List (List ℕ × CType)} →
-          out-Term e ≡ Term-F.Fields ls p → AreLabels ls fs → IsType e (record_type fs)
-      table_over : {e a b : Term} {p : Place} {P V : CType} → out-Term e ≡ Term-F.TabType a b p →
+          form e ≡ Term-F.Fields ls p → AreLabels ls fs → IsType e (record_type fs)
+      table_over : {e a b : Term} {p : Place} {P V : CType} → form e ≡ Term-F.TabType a b p →
           IsType a P → IsDomain P → IsType b V → IsData V → IsType e (table_type P V)
       function_from : {e a b : Term} {xs : List Bind} {p : Place} {A B : CType} →
-          out-Term e ≡ Term-F.Arrow xs a b p → IsType a A → IsData A → IsType b B →
+          form e ≡ Term-F.Arrow xs a b p → IsType a A → IsData A → IsType b B →
           IsType e (functions (for_each xs A) B)
-      pair_of : {e a b : Term} {p : Place} {Ts : List CType} → out-Term e ≡ Term-F.Pair a b p →
+      pair_of : {e a b : Term} {p : Place} {Ts : List CType} → form e ≡ Term-F.Pair a b p →
           AreFactors e Ts → IsType e (record_type (tuple_fields 0 Ts))
       parameters_named : {e : Term} {w : Whole} {p : Place} {T : CType} →
-          out-Term e ≡ Term-F.Var (WholeName w) p → IsParameter w T → count_of T ≤ most_values →
+          form e ≡ Term-F.Var (WholeName w) p → IsParameter w T → count_of T ≤ most_values →
           IsType e T
       oper_named : {e D d : Term} {w : Whole} (k : ℕ) {p : Place} {S T : CType} →
-          out-Term e ≡ Term-F.Var (WholeName w) p → Stands w (an_oper k (Some D) (Some d)) →
+          form e ≡ Term-F.Var (WholeName w) p → Stands w (an_oper k (Some D) (Some d)) →
           IsType D S → (S ≡ sort_type) ⊎ (S ≡ sort_param) → IsType d T → IsType e T
       definition_named : {e d : Term} {w : Whole} (k : ℕ) {p : Place} {T : CType} →
-          out-Term e ≡ Term-F.Var (WholeName w) p → Stands w (an_oper k None (Some d)) →
-          ((q : Place) → ¬ (out-Term d ≡ Term-F.Fields [] q)) → IsType d T → IsType e T
+          form e ≡ Term-F.Var (WholeName w) p → Stands w (an_oper k None (Some d)) →
+          ((q : Place) → ¬ (form d ≡ Term-F.Fields [] q)) → IsType d T → IsType e T
 
     -- w names the parameter type, which has its constructors in order
     pub data IsParameter : Whole → CType → Type 0 where
@@ -226,9 +207,9 @@ module _ (items : List Item) where
     -- the types of a product; where the left side is a product in turn, its items stay
     pub data AreFactors : Term → List CType → Type 0 where
       last_factor : {e : Term} {T : CType} → ((a b : Term) (p : Place) →
-          ¬ (out-Term e ≡ Term-F.Pair a b p)) → IsType e T → IsData T → AreFactors e (T ∷ [])
+          ¬ (form e ≡ Term-F.Pair a b p)) → IsType e T → IsData T → AreFactors e (T ∷ [])
       next_factor : {e a b : Term} {p : Place} {Ts : List CType} {T : CType} →
-          out-Term e ≡ Term-F.Pair a b p → AreFactors a Ts → IsType b T → IsData T →
+          form e ≡ Term-F.Pair a b p → AreFactors a Ts → IsType b T → IsData T →
           AreFactors e (Ts ++ T ∷ [])
 
   -- a function that takes as many arguments of these types as it has parameters
@@ -240,10 +221,12 @@ module _ (items : List Item) where
 
   -- the alternative of that number takes the arguments
   pub record Suits (w : Whole) (As : List CType) (us : List LinTerm) (k : ℕ) (R : CType) (u : LinTerm) : Type 0 where
+    pub before : Option Term
+    pub binds : List Bind
     pub written : Term
     pub definition : Term
     pub its_type : CType
-    pub stands : At k (alternative w written definition)
+    pub stands : At k (alternative w before binds written definition)
     pub is_type : IsType written its_type
     pub taken : Takes its_type (made (Lin-F.Oper k)) As us R u
 
@@ -254,150 +237,151 @@ module _ (items : List Item) where
 
   -- a head that is applied as it is found: no overload, and not Ints
   pub record IsHead (f : Term) : Type 0 where
-    pub not_overloaded : (w : Whole) (p : Place) → out-Term f ≡ Term-F.Var (WholeName w) p →
+    pub not_overloaded : (w : Whole) (p : Place) → form f ≡ Term-F.Var (WholeName w) p →
         ¬ (Stands w an_overload)
-    pub not_ints : (p : Place) → ¬ (out-Term f ≡ Term-F.Sort Sort-V.Ints p)
+    pub not_ints : (p : Place) → ¬ (form f ≡ Term-F.Sort Sort-V.Ints p)
 
   mutual
     -- the term has the type where none is given, and means the typed term
     pub data Finds : Scope → Term → CType → LinTerm → Type 0 where
       variable : {Γ : Scope} {e : Term} {x : List ℕ} {p : Place} {T : CType} →
-          out-Term e ≡ Term-F.Var (Written x) p → field_of x Γ ≡ Some T →
+          form e ≡ Term-F.Var (Written x) p → field_of x Γ ≡ Some T →
           Finds Γ e T (made (Lin-F.Var x))
       constructor_name : {Γ : Scope} {e : Term} {w c : Whole} {cs : List Constructor} {p : Place} {Ts : List CType} {T : CType} →
-          out-Term e ≡ Term-F.Var (WholeName c) p → Stands c (a_constructor w cs) → IsParameter w T →
+          form e ≡ Term-F.Var (WholeName c) p → Stands c (a_constructor w cs) → IsParameter w T →
           Constructs c Ts T → Finds Γ e (functions Ts T) (constructor_term Ts c)
       typed_oper : {Γ : Scope} {e D : Term} {d : Option Term} {w : Whole} (k : ℕ) {p : Place} {T : CType} →
-          out-Term e ≡ Term-F.Var (WholeName w) p → Stands w (an_oper k (Some D) d) → IsType D T →
+          form e ≡ Term-F.Var (WholeName w) p → Stands w (an_oper k (Some D) d) → IsType D T →
           Finds Γ e T (made (Lin-F.Oper k))
       untyped_oper : {Γ : Scope} {e d : Term} {w : Whole} (k : ℕ) {p : Place} {T : CType} {t : LinTerm} →
-          out-Term e ≡ Term-F.Var (WholeName w) p → Stands w (an_oper k None (Some d)) →
+          form e ≡ Term-F.Var (WholeName w) p → Stands w (an_oper k None (Some d)) →
           Finds [] d T t → Finds Γ e T (made (Lin-F.Oper k))
       alternative_alone : {Γ : Scope} {e : Term} {w : Whole} (k : ℕ) {p : Place} {R : CType} {t : LinTerm} →
-          out-Term e ≡ Term-F.Var (WholeName w) p → Stands w an_overload → Chosen w [] [] k R t →
+          form e ≡ Term-F.Var (WholeName w) p → Stands w an_overload → Chosen w [] [] k R t →
           Finds Γ e R t
       parameter_name : {Γ : Scope} {e : Term} {w : Whole} {p : Place} {T : CType} →
-          out-Term e ≡ Term-F.Var (WholeName w) p → IsParameter w T → Finds Γ e sort_type no_value
-      type_form : {Γ : Scope} {e : Term} {T : CType} → is_type_form (out-Term e) ≡ true → IsType e T →
+          form e ≡ Term-F.Var (WholeName w) p → IsParameter w T → Finds Γ e sort_type no_value
+      type_form : {Γ : Scope} {e : Term} {T : CType} → is_type_form (form e) ≡ true → IsType e T →
           Finds Γ e sort_type no_value
-      literal : {Γ : Scope} {e : Term} {text : List ℕ} {p : Place} → out-Term e ≡ Term-F.Lit text p →
+      literal : {Γ : Scope} {e : Term} {text : List ℕ} {p : Place} → form e ≡ Term-F.Lit text p →
           Finds Γ e str_type (made (Lin-F.Words (words_of text)))
-      no_words : {Γ : Scope} {e : Term} {p : Place} → out-Term e ≡ Term-F.Empty p →
+      no_words : {Γ : Scope} {e : Term} {p : Place} → form e ≡ Term-F.Empty p →
           Finds Γ e str_type (made (Lin-F.Words []))
       append : {Γ : Scope} {e a b : Term} {p : Place} {t u : LinTerm} →
-          out-Term e ≡ Term-F.Concat a b p → Checks Γ a str_type t → Checks Γ b str_type u →
+          form e ≡ Term-F.Concat a b p → Checks Γ a str_type t → Checks Γ b str_type u →
           Finds Γ e str_type (made (Lin-F.Concat t u))
-      glue : {Γ : Scope} {e a b : Term} {p : Place} {t u : LinTerm} → out-Term e ≡ Term-F.Glue a b p →
+      glue : {Γ : Scope} {e a b : Term} {p : Place} {t u : LinTerm} → form e ≡ Term-F.Glue a b p →
           Checks Γ a str_type t → Checks Γ b str_type u →
           Finds Γ e str_type (made (Lin-F.Glue t u p))
-      number : {Γ : Scope} {e : Term} {n : ℕ} {p : Place} → out-Term e ≡ Term-F.Num n p →
+      number : {Γ : Scope} {e : Term} {n : ℕ} {p : Place} → form e ≡ Term-F.Num n p →
           Finds Γ e (number_type n) (made (Lin-F.Num n))
       predef : {Γ : Scope} {e f : Term} {x : List ℕ} {p q : Place} {r : Predef} →
-          out-Term e ≡ Term-F.Proj f x p → out-Term f ≡ Term-F.Sort Sort-V.Predef q →
+          form e ≡ Term-F.Proj f x p → form f ≡ Term-F.Sort Sort-V.Predef q →
           predef_named x ≡ Some r → Finds Γ e predef_type (predef_term r p)
       projection : {Γ : Scope} {e r : Term} {x : List ℕ} {p : Place} {R T : CType} {fs : List (List ℕ × CType)} {t : LinTerm} →
-          out-Term e ≡ Term-F.Proj r x p → ((q : Place) →
-          ¬ (out-Term r ≡ Term-F.Sort Sort-V.Predef q)) → Finds Γ r R t →
+          form e ≡ Term-F.Proj r x p → ((q : Place) →
+          ¬ (form r ≡ Term-F.Sort Sort-V.Predef q)) → Finds Γ r R t →
           out-CType R ≡ CType-F.Record fs → field_of x fs ≡ Some T →
           Finds Γ e T (made (Lin-F.Proj t x))
       application : {Γ : Scope} {e f a : Term} {es : List Term} {F R : CType} {t u : LinTerm} →
           Spine e [] f (a ∷ es) → Finds Γ f F t → IsHead f → ChecksArguments Γ F t (a ∷ es) R u →
           Finds Γ e R u
       overloaded : {Γ : Scope} {e f a : Term} {es : List Term} {w : Whole} (k : ℕ) {p : Place} {As : List CType} {us : List LinTerm} {R : CType} {u : LinTerm} →
-          Spine e [] f (a ∷ es) → out-Term f ≡ Term-F.Var (WholeName w) p → Stands w an_overload →
+          Spine e [] f (a ∷ es) → form f ≡ Term-F.Var (WholeName w) p → Stands w an_overload →
           FindsAll Γ (a ∷ es) As us → Chosen w As us k R u → Finds Γ e R u
       selection : {Γ : Scope} {e a b : Term} {p : Place} {S P V : CType} {t u : LinTerm} →
-          out-Term e ≡ Term-F.Select a b p → is_table_expression (out-Term a) ≡ false →
+          form e ≡ Term-F.Select a b p → is_table_expression (form a) ≡ false →
           Finds Γ a S t → out-CType S ≡ CType-F.Table P V → Checks Γ b P u →
           Finds Γ e V (made (Lin-F.Select t u))
       branch_over : {Γ : Scope} {e a b P : Term} {cs : List (Case Term)} {p q : Place} {S V : CType} {u : LinTerm} {bs : List (Pattern × LinTerm)} →
-          out-Term e ≡ Term-F.Select a b p → out-Term a ≡ Term-F.TableOf (Some P) cs q → IsType P S →
+          form e ≡ Term-F.Select a b p → form a ≡ Term-F.TableOf (Some P) cs q → IsType P S →
           BranchesFind Γ S cs V bs → IsCovered S (patterns cs) → Checks Γ b S u →
           Finds Γ e V (made (Lin-F.Case u (Matched bs) p))
       branch_of : {Γ : Scope} {e a b : Term} {cs : List (Case Term)} {p q : Place} {S V : CType} {u : LinTerm} {bs : List (Pattern × LinTerm)} →
-          out-Term e ≡ Term-F.Select a b p → out-Term a ≡ Term-F.TableOf None cs q → Finds Γ b S u →
+          form e ≡ Term-F.Select a b p → form a ≡ Term-F.TableOf None cs q → Finds Γ b S u →
           BranchesFind Γ S cs V bs → IsCovered S (patterns cs) →
           Finds Γ e V (made (Lin-F.Case u (Matched bs) p))
       item_of : {Γ : Scope} {e a b P : Term} {es : List Term} {p q : Place} {S V : CType} {u : LinTerm} {ts : List LinTerm} →
-          out-Term e ≡ Term-F.Select a b p → out-Term a ≡ Term-F.TableList P es q → IsType P S →
+          form e ≡ Term-F.Select a b p → form a ≡ Term-F.TableList P es q → IsType P S →
           IsDomain S → MembersFind Γ es V ts → count_of S ≤ length es → Checks Γ b S u →
           Finds Γ e V (made (Lin-F.Case u (Listed S ts) p))
       case_found : {Γ : Scope} {e b : Term} {cs : List (Case Term)} {p : Place} {S V : CType} {u : LinTerm} {bs : List (Pattern × LinTerm)} →
-          out-Term e ≡ Term-F.CaseOf b cs p → Finds Γ b S u → BranchesFind Γ S cs V bs →
+          form e ≡ Term-F.CaseOf b cs p → Finds Γ b S u → BranchesFind Γ S cs V bs →
           IsCovered S (patterns cs) → Finds Γ e V (made (Lin-F.Case u (Matched bs) p))
       table_found : {Γ : Scope} {e P : Term} {cs : List (Case Term)} {p : Place} {S V : CType} {bs : List (Pattern × LinTerm)} →
-          out-Term e ≡ Term-F.TableOf (Some P) cs p → IsType P S → IsDomain S →
+          form e ≡ Term-F.TableOf (Some P) cs p → IsType P S → IsDomain S →
           BranchesFind Γ S cs V bs → Covers S (patterns cs) →
           Finds Γ e (table_type S V) (made (Lin-F.Table S (Matched bs)))
       list_found : {Γ : Scope} {e P : Term} {es : List Term} {p : Place} {S V : CType} {ts : List LinTerm} →
-          out-Term e ≡ Term-F.TableList P es p → IsType P S → IsDomain S → MembersFind Γ es V ts →
+          form e ≡ Term-F.TableList P es p → IsType P S → IsDomain S → MembersFind Γ es V ts →
           count_of S ≤ length es → Finds Γ e (table_type S V) (made (Lin-F.Table S (Listed S ts)))
       record_found : {Γ : Scope} {e : Term} {ls : List (Local Term)} {p : Place} {fs : List (List ℕ × CType)} {ts : List (List ℕ × LinTerm)} →
-          out-Term e ≡ Term-F.Fields ls p → FieldsHave Γ [] ls fs ts →
+          form e ≡ Term-F.Fields ls p → FieldsHave Γ [] ls fs ts →
           Finds Γ e (record_type fs) (made (Lin-F.Record ts))
       tuple_found : {Γ : Scope} {e : Term} {es : List Term} {p : Place} {fs : List (List ℕ × CType)} {ts : List (List ℕ × LinTerm)} →
-          out-Term e ≡ Term-F.Tuple es p → FieldsHave Γ [] (tuple_locals 0 es) fs ts →
+          form e ≡ Term-F.Tuple es p → FieldsHave Γ [] (tuple_locals 0 es) fs ts →
           Finds Γ e (record_type fs) (made (Lin-F.Record ts))
       extension : {Γ : Scope} {e a b : Term} {p : Place} {S T : CType} {fs gs : List (List ℕ × CType)} {t u : LinTerm} →
-          out-Term e ≡ Term-F.Extend a b p → Finds Γ a S t → out-CType S ≡ CType-F.Record fs →
+          form e ≡ Term-F.Extend a b p → Finds Γ a S t → out-CType S ≡ CType-F.Record fs →
           Finds Γ b T u → out-CType T ≡ CType-F.Record gs →
           Finds Γ e (record_type (extended fs gs)) (made (Lin-F.Extend t u))
       typed : {Γ : Scope} {e a b : Term} {p : Place} {T : CType} {t : LinTerm} →
-          out-Term e ≡ Term-F.Typed a b p → IsType b T → Checks Γ a T t → Finds Γ e T t
+          form e ≡ Term-F.Typed a b p → IsType b T → Checks Γ a T t → Finds Γ e T t
       let_found : {Γ Δ : Scope} {e b : Term} {ls : List (Local Term)} {p : Place} {ds : List (List (List ℕ) × LinTerm)} {T : CType} {t : LinTerm} →
-          out-Term e ≡ Term-F.Let ls b p → Defines Γ ls Δ ds → Finds Δ b T t →
+          form e ≡ Term-F.Let ls b p → Defines Γ ls Δ ds → Finds Δ b T t →
           Finds Γ e T (with_lets ds t)
       alternatives_found : {Γ : Scope} {e a b : Term} {p : Place} {T : CType} {ts : List LinTerm} →
-          out-Term e ≡ Term-F.Alt a b p → MembersFind Γ (a ∷ b ∷ []) T ts →
+          form e ≡ Term-F.Alt a b p → MembersFind Γ (a ∷ b ∷ []) T ts →
           Finds Γ e T (made (Lin-F.Variants ts))
       variants_found : {Γ : Scope} {e : Term} {es : List Term} {p : Place} {T : CType} {ts : List LinTerm} →
-          out-Term e ≡ Term-F.Variants es p → MembersFind Γ es T ts →
+          form e ≡ Term-F.Variants es p → MembersFind Γ es T ts →
           Finds Γ e T (made (Lin-F.Variants ts))
 
     -- the term fits the given type, and means the typed term
     pub data Checks : Scope → Term → CType → LinTerm → Type 0 where
       lambda : {Γ : Scope} {e b : Term} {xs : List Bind} {p : Place} {T : CType} {t : LinTerm} →
-          out-Term e ≡ Term-F.Fun xs b p → ChecksLambda Γ xs b T t → Checks Γ e T t
+          form e ≡ Term-F.Fun xs b p → ChecksLambda Γ xs b T t → Checks Γ e T t
       table_lambda : {Γ : Scope} {e b : Term} {xs : List Bind} {p : Place} {T : CType} {t : LinTerm} →
-          out-Term e ≡ Term-F.TabFun xs b p → ChecksTable Γ xs b T t → Checks Γ e T t
+          form e ≡ Term-F.TabFun xs b p → ChecksTable Γ xs b T t → Checks Γ e T t
       branches : {Γ : Scope} {e : Term} {cs : List (Case Term)} {p : Place} {T P V : CType} {bs : List (Pattern × LinTerm)} →
-          out-Term e ≡ Term-F.TableOf None cs p → out-CType T ≡ CType-F.Table P V →
+          form e ≡ Term-F.TableOf None cs p → out-CType T ≡ CType-F.Table P V →
           BranchesCheck Γ P cs V bs → Covers P (patterns cs) →
           Checks Γ e T (made (Lin-F.Table P (Matched bs)))
       branches_over : {Γ : Scope} {e D : Term} {cs : List (Case Term)} {p : Place} {T P V : CType} {bs : List (Pattern × LinTerm)} →
-          out-Term e ≡ Term-F.TableOf (Some D) cs p → out-CType T ≡ CType-F.Table P V → IsType D P →
+          form e ≡ Term-F.TableOf (Some D) cs p → out-CType T ≡ CType-F.Table P V → IsType D P →
           BranchesCheck Γ P cs V bs → Covers P (patterns cs) →
           Checks Γ e T (made (Lin-F.Table P (Matched bs)))
       listed : {Γ : Scope} {e D : Term} {es : List Term} {p : Place} {T P V : CType} {ts : List LinTerm} →
-          out-Term e ≡ Term-F.TableList D es p → out-CType T ≡ CType-F.Table P V → IsType D P →
+          form e ≡ Term-F.TableList D es p → out-CType T ≡ CType-F.Table P V → IsType D P →
           MembersCheck Γ es V ts → count_of P ≤ length es →
           Checks Γ e T (made (Lin-F.Table P (Listed P ts)))
       record_given : {Γ : Scope} {e : Term} {ls : List (Local Term)} {p : Place} {T : CType} {fs gs : List (List ℕ × CType)} {ts : List (List ℕ × LinTerm)} {t : LinTerm} →
-          out-Term e ≡ Term-F.Fields ls p → out-CType T ≡ CType-F.Record gs →
+          form e ≡ Term-F.Fields ls p → out-CType T ≡ CType-F.Record gs →
           FieldsHave Γ gs ls fs ts → Fits (record_type fs) T (made (Lin-F.Record ts)) t →
           Checks Γ e T t
       tuple_given : {Γ : Scope} {e : Term} {es : List Term} {p : Place} {T : CType} {fs gs : List (List ℕ × CType)} {ts : List (List ℕ × LinTerm)} {t : LinTerm} →
-          out-Term e ≡ Term-F.Tuple es p → out-CType T ≡ CType-F.Record gs →
+          form e ≡ Term-F.Tuple es p → out-CType T ≡ CType-F.Record gs →
           FieldsHave Γ gs (tuple_locals 0 es) fs ts →
           Fits (record_type fs) T (made (Lin-F.Record ts)) t → Checks Γ e T t
       let_given : {Γ Δ : Scope} {e b : Term} {ls : List (Local Term)} {p : Place} {ds : List (List (List ℕ) × LinTerm)} {T : CType} {t : LinTerm} →
-          out-Term e ≡ Term-F.Let ls b p → Defines Γ ls Δ ds → Checks Δ b T t →
+          form e ≡ Term-F.Let ls b p → Defines Γ ls Δ ds → Checks Δ b T t →
           Checks Γ e T (with_lets ds t)
       case_given : {Γ : Scope} {e b : Term} {cs : List (Case Term)} {p : Place} {S T : CType} {u : LinTerm} {bs : List (Pattern × LinTerm)} →
-          out-Term e ≡ Term-F.CaseOf b cs p → Finds Γ b S u → BranchesCheck Γ S cs T bs →
+          form e ≡ Term-F.CaseOf b cs p → Finds Γ b S u → BranchesCheck Γ S cs T bs →
           IsCovered S (patterns cs) → Checks Γ e T (made (Lin-F.Case u (Matched bs) p))
       alternatives_given : {Γ : Scope} {e a b : Term} {p : Place} {T : CType} {ts : List LinTerm} →
-          out-Term e ≡ Term-F.Alt a b p → MembersCheck Γ (a ∷ b ∷ []) T ts →
+          form e ≡ Term-F.Alt a b p → MembersCheck Γ (a ∷ b ∷ []) T ts →
           Checks Γ e T (made (Lin-F.Variants ts))
       variants_given : {Γ : Scope} {e : Term} {es : List Term} {p : Place} {T : CType} {ts : List LinTerm} →
-          out-Term e ≡ Term-F.Variants es p → MembersCheck Γ es T ts →
+          form e ≡ Term-F.Variants es p → MembersCheck Γ es T ts →
           Checks Γ e T (made (Lin-F.Variants ts))
-      empty_type : {Γ : Scope} {e : Term} {p : Place} → out-Term e ≡ Term-F.Fields [] p →
+      empty_type : {Γ : Scope} {e : Term} {p : Place} → form e ≡ Term-F.Fields [] p →
           Checks Γ e sort_type no_value
-      parameter_given : {Γ : Scope} {e : Term} {w : Whole} {p : Place} {T : CType} →
-          out-Term e ≡ Term-F.Var (WholeName w) p → IsParameter w T → Checks Γ e sort_param no_value
+      parameter_given : {Γ : Scope} {e : Term} {w c : Whole} {ds : List (Whole × List CType)} {p : Place} {T : CType} {t : LinTerm} →
+          form e ≡ Term-F.Var (WholeName w) p → Finds Γ e sort_type t → IsType e T →
+          out-CType T ≡ CType-F.Param c ds → Checks Γ e sort_param t
       found : {Γ : Scope} {e : Term} {S T : CType} {t u : LinTerm} →
-          passes (out-Term e) (out-CType T) ≡ false → Finds Γ e S t → Fits S T t u → Checks Γ e T u
+          passes (form e) (out-CType T) ≡ false → Finds Γ e S t → Fits S T t u → Checks Γ e T u
 
     -- a lambda of several variables is one in another
     pub data ChecksLambda : Scope → List Bind → Term → CType → LinTerm → Type 0 where

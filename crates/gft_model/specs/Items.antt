@@ -15,13 +15,13 @@ use Rattle.gft_syntax.specs.declared.flat.Flat.{Flat}
 use Rattle.gft_syntax.specs.declared.flat.FlatJudgement.{FlatJudgement}
 
 -- a numbered judgement: a parameter type with its constructors or without; an oper with its type
--- and its definition, where they are there; an alternative of an overload; and those of a concrete
--- module, with its name
+-- and its definition, where they are there; an alternative of an overload, after the type and the
+-- arguments that stand before the word overload; and those of a concrete module, with its name
 pub data Item : Type 0 where
   parameter_type : Whole → List Constructor → Item
   bare_parameter : Whole → Item
   oper : Whole → Option Term → Option Term → Item
-  alternative : Whole → Term → Term → Item
+  alternative : Whole → Option Term → List Bind → Term → Term → Item
   lincat : List ℕ → Whole → Term → Item
   lin : List ℕ → Whole → Term → Item
   lindef : List ℕ → Whole → Term → Item
@@ -39,14 +39,10 @@ with_arguments (x ∷ xs) e = roll-Term (Term-F.Fun (x ∷ xs) e (bind_place x))
 -- the items of a definition: one, or one for each alternative
 abbrev pub defined : Whole → Option Term → List Bind → Definition → List Item
 defined w T xs (Definition-V.Term e) = oper w T (Some (with_arguments xs e)) ∷ []
-defined w T xs (Definition-V.Overload ds) = map (λ d. alternative w d.of_type d.value) ds
+defined w T xs (Definition-V.Overload ds) = map (λ d. alternative w T xs d.of_type d.value) ds
 
 -- the items of a judgement; lang is the concrete module that has it
 abbrev pub items_in : List ℕ → Whole → Judgement → List Item
-items_in lang w (Judgement-V.Cat n cs) = []
-items_in lang w (Judgement-V.ListCat n r k place) = []
-items_in lang w (Judgement-V.Fun ns T) = []
-items_in lang w (Judgement-V.Flag n v) = []
 items_in lang w (Judgement-V.Lincat ns T) = lincat lang w T ∷ []
 items_in lang w (Judgement-V.Lin ns xs e) = lin lang w (with_arguments xs e) ∷ []
 items_in lang w (Judgement-V.Lindef ns xs e) = lindef lang w (with_arguments xs e) ∷ []
@@ -56,6 +52,7 @@ items_in lang w (Judgement-V.Param n cs) = parameter_type w cs ∷ []
 items_in lang w (Judgement-V.OperType ns T) = oper w (Some T) None ∷ []
 items_in lang w (Judgement-V.OperTyped ns T d) = defined w (Some T) [] d
 items_in lang w (Judgement-V.Oper ns xs d) = defined w None xs d
+items_in lang w j = []
 
 abbrev pub items_of_all : List ℕ → List FlatJudgement → List Item
 items_of_all lang js = flat_map (λ j. items_in lang j.whole j.judgement) js

@@ -1,6 +1,7 @@
 -- What typing gives for each numbered judgement: its typed term and the type of that.
 use Rattle.std.specs.Prelude.{◌≡◌, ℕ, List, [], ◌∷◌, ◌++◌, replicate, bytes_eq, if◌then◌else◌, Option, Some, None, ◌⊎◌, codes, Contains}
-use Rattle.gft_syntax.specs.declared.ctype.CType.{CType}
+use Rattle.gft_syntax.specs.declared.ctype.CType.{CType, roll-CType}
+use Rattle.gft_syntax.specs.declared.ctype.CType.TheOpen as CType-F
 use Rattle.gft_syntax.specs.declared.flat.Flat.{Flat}
 use Rattle.gft_syntax.specs.declared.flat.FlatJudgement.{FlatJudgement}
 use Rattle.gft_syntax.specs.declared.judgement.Judgement.{Judgement}
@@ -14,8 +15,8 @@ use Rattle.gft_syntax.specs.declared.term.Term.{Term}
 use Rattle.gft_syntax.specs.declared.term.Term.TheOpen as Term-F
 use Rattle.gft_syntax.specs.declared.term.Term.TheFolds.{fold-Term}
 use Rattle.gft_model.specs.ConcreteTyping.{At, IsType, IsParameter, IsData, Finds, Checks, for_each}
-use Rattle.gft_model.specs.Items.{items_of, parameter_type, oper, alternative, lincat, lin, lindef, linref}
-use Rattle.gft_model.specs.Resting.{Rests}
+use Rattle.gft_model.specs.Items.{items_of, parameter_type, bare_parameter, oper, alternative, lincat, lin, lindef, linref}
+use Rattle.gft_model.specs.Resting.{NoCycle}
 use Rattle.gft_model.specs.TypeForms.{str_type, record_type, function_type, functions, sort_type, sort_param, made, no_value}
 
 -- the name that is referred to, without its module
@@ -83,35 +84,39 @@ pub data HaveLinTypes (flat : Flat) (lang : List ℕ) : List (List ℕ) → List
 abbrev pub IsSort : CType → Type 0
 IsSort S = (S ≡ sort_type) ⊎ (S ≡ sort_param)
 
--- no oper of the name needs itself
-abbrev pub NoCycle : Flat → Whole → Type 0
-NoCycle flat w = ¬ (Rests (items_of flat) w w)
+-- what is written before the word overload, where something is, is a type
+pub data IsWritten (flat : Flat) : Option Term → Type 0 where
+  nothing_written : IsWritten flat None
+  type_written : {e : Term} {T : CType} → IsType (items_of flat) e T → IsWritten flat (Some e)
 
 -- the judgement of that number means the typed term, which has the type; one that names a type
--- means the empty record and has that type; an oper without definition has no outcome
+-- means the empty record and has that type; an oper without definition has no outcome, and a parameter
+-- type without constructors no value
 pub data IsTyped (flat : Flat) : ℕ → LinTerm → CType → Type 0 where
   of_parameter : {w : Whole} (k : ℕ) {cs : _} {T : CType} →
       At (items_of flat) k (parameter_type w cs) → IsParameter (items_of flat) w T →
       IsTyped flat k no_value T
+  of_bare_parameter : {w : Whole} (k : ℕ) → At (items_of flat) k (bare_parameter w) →
+      IsTyped flat k no_value (roll-CType (CType-F.Param w []))
   of_named_type : {w : Whole} (k : ℕ) {D d : Term} {S T : CType} {t : LinTerm} →
       At (items_of flat) k (oper w (Some D) (Some d)) → IsType (items_of flat) D S → IsSort S →
-      Checks (items_of flat) [] d S t → IsType (items_of flat) d T → NoCycle flat w →
+      Checks (items_of flat) [] d S t → IsType (items_of flat) d T → NoCycle (items_of flat) w →
       IsTyped flat k no_value T
   of_typed_oper : {w : Whole} (k : ℕ) {D d : Term} {T : CType} {t : LinTerm} →
       At (items_of flat) k (oper w (Some D) (Some d)) → IsType (items_of flat) D T → ¬ (IsSort T) →
-      Checks (items_of flat) [] d T t → NoCycle flat w → IsTyped flat k t T
+      Checks (items_of flat) [] d T t → NoCycle (items_of flat) w → IsTyped flat k t T
   of_declared_oper : {w : Whole} (k : ℕ) {D : Term} {T : CType} →
-      At (items_of flat) k (oper w (Some D) None) → IsType (items_of flat) D T → ¬ (IsSort T) →
+      At (items_of flat) k (oper w (Some D) None) → IsType (items_of flat) D T →
       IsTyped flat k (made (Lin-F.Variants [])) T
-  of_found_type : {w : Whole} (k : ℕ) {d : Term} {T : CType} {t : LinTerm} →
-      At (items_of flat) k (oper w None (Some d)) → Finds (items_of flat) [] d sort_type t →
-      IsType (items_of flat) d T → NoCycle flat w → IsTyped flat k no_value T
+  of_found_type : {w : Whole} (k : ℕ) {d : Term} {S T : CType} {t : LinTerm} →
+      At (items_of flat) k (oper w None (Some d)) → Finds (items_of flat) [] d S t → IsSort S →
+      IsType (items_of flat) d T → NoCycle (items_of flat) w → IsTyped flat k no_value T
   of_found_oper : {w : Whole} (k : ℕ) {d : Term} {T : CType} {t : LinTerm} →
-      At (items_of flat) k (oper w None (Some d)) → Finds (items_of flat) [] d T t → ¬ (T ≡ sort_type) →
-      NoCycle flat w → IsTyped flat k t T
-  of_alternative : {w : Whole} (k : ℕ) {D d : Term} {T : CType} {t : LinTerm} →
-      At (items_of flat) k (alternative w D d) → IsType (items_of flat) D T →
-      Checks (items_of flat) [] d T t → NoCycle flat w → IsTyped flat k t T
+      At (items_of flat) k (oper w None (Some d)) → Finds (items_of flat) [] d T t → ¬ (IsSort T) →
+      NoCycle (items_of flat) w → IsTyped flat k t T
+  of_alternative : {w : Whole} (k : ℕ) {e : Option Term} {D d : Term} {T : CType} {t : LinTerm} →
+      At (items_of flat) k (alternative w e [] D d) → IsWritten flat e → IsType (items_of flat) D T →
+      Checks (items_of flat) [] d T t → NoCycle (items_of flat) w → IsTyped flat k t T
   of_lincat : {lang : List ℕ} {w : Whole} (k : ℕ) {e : Term} {T : CType} →
       At (items_of flat) k (lincat lang w e) → IsType (items_of flat) e T → IsData T →
       IsTyped flat k no_value T

@@ -79,39 +79,37 @@ names_step d = []
 abbrev pub names_in : Term → Wholes
 names_in = fold-Term Wholes names_step
 
--- the whole name of an item, and those in it
-abbrev pub item_name : Item → Whole
-item_name (parameter_type w cs) = w
-item_name (bare_parameter w) = w
-item_name (oper w t d) = w
-item_name (alternative w t d) = w
-item_name (lincat lang w e) = w
-item_name (lin lang w e) = w
-item_name (lindef lang w e) = w
-item_name (linref lang w e) = w
-
 abbrev pub names_where : Option Term → Wholes
 names_where None = []
 names_where (Some e) = names_in e
 
+-- the whole names in an item
 abbrev pub item_names : Item → Wholes
 item_names (parameter_type w cs) = flat_map (λ c. flat_map (λ a. names_in a.of_type) c.arguments) cs
 item_names (bare_parameter w) = []
 item_names (oper w t d) = names_where t ++ names_where d
-item_names (alternative w t d) = names_in t ++ names_in d
+item_names (alternative w t xs D d) = names_where t ++ names_in D ++ names_in d
 item_names (lincat lang w e) = names_in e
 item_names (lin lang w e) = names_in e
 item_names (lindef lang w e) = names_in e
 item_names (linref lang w e) = names_in e
 
--- the names of an item: its own, and those of constructors, which count as their parameter type
+-- the names by which terms name an item: its own, and those of constructors, which count as their
+-- parameter type; terms name no lincat, lin, lindef or linref
 abbrev pub answers_to : Item → Wholes
 answers_to (parameter_type w cs) = w ∷ map (λ c. record { «module» = w.«module»; name = c.name.name }) cs
-answers_to i = item_name i ∷ []
+answers_to (bare_parameter w) = w ∷ []
+answers_to (oper w t d) = w ∷ []
+answers_to (alternative w t xs D d) = w ∷ []
+answers_to i = []
 
--- the judgements of one name rest on those of another; it goes by name
-pub data Rests (items : List Item) : Whole → Whole → Type 0 where
+-- an item rests on those that the names in it name, and on what these rest on
+pub data Rests (items : List Item) : Item → Item → Type 0 where
   names_it : {i k : Item} {v : Whole} →
-      Contains items i → Contains items k → Contains (item_names i) v → Contains (answers_to k) v →
-      Rests items (item_name i) (item_name k)
-  and_so_on : {u v w : Whole} → Rests items u v → Rests items v w → Rests items u w
+      Contains items k → Contains (item_names i) v → Contains (answers_to k) v → Rests items i k
+  and_so_on : {i j k : Item} → Rests items i j → Rests items j k → Rests items i k
+
+-- no item of the name rests on one of the name; it goes by name, so an overload is one oper
+abbrev pub NoCycle : List Item → Whole → Type 0
+NoCycle items w =
+    (i k : Item) → Contains items i → Contains (answers_to i) w → Contains (answers_to k) w → ¬ (Rests items i k)

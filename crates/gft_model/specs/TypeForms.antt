@@ -4,7 +4,8 @@ use Rattle.gft_core.specs.declared.place.Place.{Place}
 use Rattle.gft_syntax.specs.declared.bind.Bind.{Bind}
 use Rattle.gft_syntax.specs.declared.bind.Bind.TheVariants.{Variable, Nothing}
 use Rattle.gft_syntax.specs.declared.reference.Whole.{Whole}
-use Rattle.gft_syntax.specs.declared.reference.Reference.TheVariants.{Written}
+use Rattle.gft_syntax.specs.declared.reference.Reference.TheVariants.{Written, Whole as WholeName}
+use Rattle.gft_syntax.specs.Terms.{Layer}
 use Rattle.gft_syntax.specs.declared.ctype.CType.{CType, roll-CType}
 use Rattle.gft_syntax.specs.declared.ctype.CType.TheOpen as CType-F
 use Rattle.gft_syntax.specs.declared.linear.LinTerm.{LinTerm, roll-LinTerm}
@@ -13,11 +14,20 @@ use Rattle.gft_syntax.specs.declared.linear.Predef.{Predef}
 use Rattle.gft_syntax.specs.declared.linear.Predef.TheVariants.{Take, Drop, Tk, Dp}
 use Rattle.gft_syntax.specs.declared.pattern.Pattern.{Pattern, roll-Pattern}
 use Rattle.gft_syntax.specs.declared.pattern.Pattern.TheOpen as Pattern-F
-use Rattle.gft_syntax.specs.declared.term.Term.{Term}
+use Rattle.gft_syntax.specs.declared.term.Term.{Term, out-Term}
+use Rattle.gft_syntax.specs.declared.term.Term.TheOpen as Term-F
 use Rattle.gft_syntax.specs.declared.term.Local.{Local}
 use Rattle.gft_syntax.specs.declared.term.Local.TheVariants.{Value}
 use Rattle.gft_model.specs.Matching.{tuple_label}
 use Rattle.gft_model.specs.Values.{extended}
+
+-- the form of a term, where [C] is a name as any other
+abbrev pub as_name : Layer → Layer
+as_name (Term-F.ListCat (WholeName w) place) = Term-F.Var (WholeName w) place
+as_name d = d
+
+unfoldable pub form : Term → Layer
+form e = as_name (out-Term e)
 
 abbrev pub str_type : CType
 str_type = roll-CType CType-F.Str
