@@ -5,7 +5,7 @@ use Rattle.gft_core.specs.declared.tree.Tree.TheOpen.{Tree-F}
 use Rattle.gft_core.specs.declared.tree.Tree.TheFolds.{fold-roll-Tree, map-Tree}
 use Rattle.gft_syntax.specs.declared.ctype.CType.{CType, roll-CType}
 use Rattle.gft_syntax.specs.declared.ctype.CType.TheOpen.{CType-F}
-use Rattle.gft_syntax.specs.declared.ctype.CType.TheFolds.{fold-roll-CType, map-CType}
+use Rattle.gft_syntax.specs.declared.ctype.CType.TheFolds.{fold-CType, fold-roll-CType, map-CType}
 use Rattle.gft_syntax.specs.declared.flat.Flat.{Flat}
 use Rattle.gft_syntax.specs.declared.linear.LinTerm.{LinTerm, roll-LinTerm}
 use Rattle.gft_syntax.specs.declared.linear.LinTerm.TheOpen.{LinTerm-F}
@@ -26,8 +26,9 @@ use Rattle.gft_model.specs.ConcreteTypes.{Parts, parts_of, layer_values, leaves_
 use Rattle.gft_model.specs.Matching.{Subject, Match, match_of, match_step}
 use Rattle.gft_model.specs.Outcomes.{Results, Environment, results_of, step}
 use Rattle.gft_core.specs.declared.symbol.Sym.{Sym}
+use Rattle.gft_model.specs.Productions.{CaseValues, layer_params, case_values_step, case_of, parameters_step}
 use Rattle.gft_model.specs.TreeStrings.{first_string, first_string_step}
-use Rattle.gft_model.specs.TreeValues.{string_leaves, leaves_of_step, Numbered, number_step, AtPosition, value_of_layer, bracketed_values}
+use Rattle.gft_model.specs.TreeValues.{Default, default_step, default_value_step, string_leaves, leaves_of_step, Numbered, number_step, AtPosition, value_of_layer, bracketed_values}
 use Rattle.gft_model.specs.TypeForms.{form, as_name}
 use Rattle.gft_model.specs.Values.{same_param, same_step, cut_value, cut_step}
 
@@ -82,3 +83,17 @@ first_string-roll d = fold-roll-Value (Option (List Sym)) first_string_step d
 pub string_leaves-roll : (d : Value-F Value) →
     string_leaves (roll-Value d) ≡ leaves_of_step (map-Value Value (List (List Sym)) string_leaves d)
 string_leaves-roll d = fold-roll-Value (List (List Sym)) leaves_of_step d
+
+pub default-roll : (d : CType-F CType) →
+    (fold-CType Default default_step (roll-CType d)).value ≡ default_value_step (map-CType CType Default (fold-CType Default default_step) d)
+default-roll d = ap (λ (c : Default). c.value) (fold-roll-CType Default default_step d)
+
+abbrev cases_step : CType-F CaseValues → CaseValues
+cases_step d = record { params = layer_params d; values = case_values_step d }
+
+pub case_values-roll : (d : CType-F CType) →
+    (fold-CType CaseValues (λ d. record { params = layer_params d; values = case_values_step d }) (roll-CType d)).values ≡ case_values_step (map-CType CType CaseValues (fold-CType CaseValues cases_step) d)
+case_values-roll d = ap (λ (c : CaseValues). c.values) (fold-roll-CType CaseValues cases_step d)
+
+pub case_of-roll : (d : Value-F Value) → case_of (roll-Value d) ≡ parameters_step (map-Value Value (List Param) case_of d)
+case_of-roll d = fold-roll-Value (List Param) parameters_step d

@@ -24,11 +24,11 @@ use Rattle.gft_model.specs.Values.{extended}
 use Rattle.gft_model.proofs.PatternLaws.{fits-once, same-arguments}
 use Rattle.gft_model.proofs.TypeLaws.{type-once, parameter-once}
 
-apart : false ≡ true → ⊥
+pub apart : false ≡ true → ⊥
 apart e = cc
 
 -- a number for each form of term, and for each kind of name and of table
-abbrev tag : F.Term-F Term → ℕ
+abbrev pub tag : F.Term-F Term → ℕ
 tag (F.Alt a b p) = 1
 tag (F.Fun a b p) = 2
 tag (F.TabFun a b p) = 3
@@ -59,13 +59,13 @@ tag (F.Fields a p) = 27
 tag (F.Tuple a p) = 28
 tag (F.Typed a b p) = 29
 
-same-tag : {e f : Term} {l m : F.Term-F Term} → form e ≡ l → e ≡ f → form f ≡ m → tag l ≡ tag m
+pub same-tag : {e f : Term} {l m : F.Term-F Term} → form e ≡ l → e ≡ f → form f ≡ m → tag l ≡ tag m
 same-tag h e k = ap tag (sym h ∙ ap form e ∙ k)
 
 eq-self : (n : ℕ) → (n == n) ≡ true
 eq-self n = search rules
 
-apart-tags : (m n : ℕ) → (m == n) ≡ false → m ≡ n → ⊥
+pub apart-tags : (m n : ℕ) → (m == n) ≡ false → m ≡ n → ⊥
 apart-tags m n h e = apart (sym h ∙ (ap (λ (k : ℕ). m == k) (sym e) ∙ eq-self m))
 
 -- an application taken apart, in one way
@@ -286,7 +286,7 @@ module _ (items : List Item) where
   form_is (variants_found a0 a1) = a0
   form_is (type_form a0 a1) = refl
 
-  abbrev check_form : {Γ : Scope} {e : Term} {T : CType} {t : LinTerm} → Checks items Γ e T t → F.Term-F Term
+  abbrev pub check_form : {Γ : Scope} {e : Term} {T : CType} {t : LinTerm} → Checks items Γ e T t → F.Term-F Term
   check_form (lambda {b = b} {xs = xs} {p = p} a0 a1) = F.Fun xs b p
   check_form (table_lambda {b = b} {xs = xs} {p = p} a0 a1) = F.TabFun xs b p
   check_form (branches {cs = cs} {p = p} a0 a1 a2 a3) = F.TableOf None cs p
@@ -302,7 +302,7 @@ module _ (items : List Item) where
   check_form (parameter_given {w = w} {p = p} a0 a1 a2 a3) = F.Var (WholeName w) p
   check_form (found {e = e} a0 a1 a2) = form e
 
-  check_form_is : {Γ : Scope} {e : Term} {T : CType} {t : LinTerm} (d : Checks items Γ e T t) → form e ≡ check_form d
+  pub check_form_is : {Γ : Scope} {e : Term} {T : CType} {t : LinTerm} (d : Checks items Γ e T t) → form e ≡ check_form d
   check_form_is (lambda a0 a1) = a0
   check_form_is (table_lambda a0 a1) = a0
   check_form_is (branches a0 a1 a2 a3) = a0

@@ -5,6 +5,8 @@ pub mod MatchExamples
 pub mod TypeExamples
 pub mod SourceExamples
 pub mod TermTreeExamples
+pub mod ProductionExamples
+pub mod ItemExamples
 pub mod TypingExamples
 pub mod PatternLaws
 pub mod TypeLaws

@@ -12,9 +12,16 @@ use Rattle.gft_syntax.specs.declared.linear.Predef.TheVariants.{Dp}
 use Rattle.gft_syntax.specs.declared.value.Value.TheViews.{out-roll-Value}
 use Rattle.gft_syntax.specs.declared.value.Param.TheViews.{out-roll-Param}
 use Rattle.gft_syntax.specs.declared.value.Value.TheFolds.{fold-roll-Value}
-use Rattle.gft_model.specs.ValueForms.{string_value}
-use Rattle.gft_model.specs.Outcomes.{outcomes_of, no_environment, none, Outcome, gives, stuck_at, glue_on_argument}
-use Rattle.gft_model.proofs.Computing.{results-roll}
+use Rattle.gft_model.specs.ValueForms.{string_value, record_value}
+use Rattle.gft_model.specs.Outcomes.{outcomes_of, no_environment, none, Outcome, gives, stuck_at, glue_on_argument, match_on_argument, no_string_branch}
+use Rattle.gft_syntax.specs.declared.ctype.CType.{roll-CType}
+use Rattle.gft_syntax.specs.declared.ctype.CType.TheOpen as C
+use Rattle.gft_syntax.specs.declared.linear.Branches.TheVariants.{Matched}
+use Rattle.gft_syntax.specs.declared.pattern.Pattern.{Pattern, roll-Pattern}
+use Rattle.gft_syntax.specs.declared.pattern.Pattern.TheOpen as P
+use Rattle.gft_model.specs.Outcomes.{Environment}
+use Rattle.gft_model.specs.Values.{cut_value}
+use Rattle.gft_model.proofs.Computing.{results-roll, match-roll, cut-roll}
 
 abbrev made : L.LinTerm-F LinTerm → LinTerm
 made = roll-LinTerm
@@ -69,3 +76,56 @@ pub last_two : outcomes_of (λ k. none) (made (L.Predef Dp (made (L.Num 2)) (wor
     ≡ string (Tok (codes "es") ∷ []) ∷ []
 unfolding chars lib.Utf8.encode
 last_two = simp (results-roll, out-roll-Value, out-roll-Param, fold-roll-Value)
+
+-- patterns, and a case of a term
+abbrev any : Pattern
+any = roll-Pattern (P.Any nowhere)
+
+abbrev number_pattern : ℕ → Pattern
+number_pattern n = roll-Pattern (P.Num n nowhere)
+
+abbrev text_pattern : List ℕ → Pattern
+text_pattern w = roll-Pattern (P.Text w nowhere)
+
+abbrev case : LinTerm → List (Pattern × LinTerm) → LinTerm
+case e bs = made (L.Case e (Matched bs) nowhere)
+
+-- an argument that is one closed part
+abbrev closed_argument : Environment
+closed_argument = record { arguments = string_value (Arg 0 0 ∷ []) ∷ []; variables = [] }
+
+-- case 0 of {_ => "a" ; 0 => "b"}: the first branch that matches
+pub first_branch : outcomes_of (λ k. none) (case (made (L.Num 0)) ((any, word a) ∷ (number_pattern 0, word b) ∷ [])) no_environment
+    ≡ string (Tok a ∷ []) ∷ []
+first_branch = simp (results-roll, match-roll, out-roll-Value)
+
+-- case 0 of {1 => "a" ; 0 => "b"}: one that differs is passed over
+pub second_branch : outcomes_of (λ k. none) (case (made (L.Num 0)) ((number_pattern 1, word a) ∷ (number_pattern 0, word b) ∷ [])) no_environment
+    ≡ string (Tok b ∷ []) ∷ []
+second_branch = simp (results-roll, match-roll, out-roll-Value, out-roll-Param)
+
+-- case x of {_ => "a"} where x is a closed part: _ takes it
+pub closed_under_any : outcomes_of (λ k. none) (case (made (L.Arg 0)) ((any, word a) ∷ [])) closed_argument
+    ≡ string (Tok a ∷ []) ∷ []
+closed_under_any = simp (results-roll, match-roll, out-roll-Value)
+
+-- case x of {"b" => "a" ; _ => "b"} there is stuck, and the second branch is not looked at
+pub closed_under_text : outcomes_of (λ k. none) (case (made (L.Arg 0)) ((text_pattern b, word a) ∷ (any, word b) ∷ [])) closed_argument
+    ≡ stuck_at (record { rule = match_on_argument; place = nowhere }) ∷ []
+closed_under_text = simp (results-roll, match-roll, out-roll-Value)
+
+-- case "a" of {"b" => "a"}: a known text that no branch matches
+pub no_branch_for_text : outcomes_of (λ k. none) (case (word a) ((text_pattern b, word a) ∷ [])) no_environment
+    ≡ stuck_at (record { rule = no_string_branch; place = nowhere }) ∷ []
+unfolding chars lib.Utf8.encode
+no_branch_for_text = simp (results-roll, match-roll, out-roll-Value)
+
+-- ("a" + x) | "a" there: a stuck step is the outcome of its branch alone
+pub stuck_in_one : outcomes_of (λ k. none) (either (made (L.Glue (word a) (made (L.Arg 0)) nowhere)) (word a)) closed_argument
+    ≡ stuck_at (record { rule = glue_on_argument; place = nowhere }) ∷ string (Tok a ∷ []) ∷ []
+stuck_in_one = simp (results-roll, out-roll-Value)
+
+-- {s = "a" ; t = "b"} where {s : Str} stands is cut to s
+pub cut_to_s : cut_value (roll-CType (C.Record ((codes "s", roll-CType C.Str) ∷ []))) (record_value ((codes "s", string_value (Tok a ∷ [])) ∷ (codes "t", string_value (Tok b ∷ [])) ∷ []))
+    ≡ record_value ((codes "s", string_value (Tok a ∷ [])) ∷ [])
+cut_to_s = simp (cut-roll, out-roll-Value)

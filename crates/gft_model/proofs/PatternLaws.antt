@@ -9,7 +9,7 @@ use Rattle.gft_syntax.specs.declared.reference.Whole.{Whole}
 use Rattle.gft_model.specs.PatternTyping.{Scope, Constructs, PatternFits, either, sequence, constructor_with, repeated, as_well, anything, character, variable, constructor_alone, literal, number, record_of, tuple_of, EachFits, no_more, more, FieldsFit, no_field, field_done, field, ItemsFit, no_item, item}
 
 -- the form of a pattern that fits
-abbrev form_of : {T : CType} {r : Pattern} {Γ : Scope} → PatternFits T r Γ → P.Pattern-F Pattern
+abbrev pub form_of : {T : CType} {r : Pattern} {Γ : Scope} → PatternFits T r Γ → P.Pattern-F Pattern
 form_of (either {p = p} {q = q} {place = place} a0 a1 a2 a3) = P.Or p q place
 form_of (sequence {p = p} {q = q} {place = place} a0 a1 a2) = P.Seq p q place
 form_of (constructor_with {m = m} {c = c} {ps = ps} {place = place} a0 a1 a2) = P.Con m (WholeName c) ps place
@@ -24,7 +24,7 @@ form_of (number {n = n} {place = place} a0 a1) = P.Num n place
 form_of (record_of {fs = fs} {place = place} a0 a1 a2) = P.Fields fs place
 form_of (tuple_of {ps = ps} {place = place} a0 a1 a2) = P.Tuple ps place
 
-form_is : {T : CType} {r : Pattern} {Γ : Scope} (d : PatternFits T r Γ) → out-Pattern r ≡ form_of d
+pub form_is : {T : CType} {r : Pattern} {Γ : Scope} (d : PatternFits T r Γ) → out-Pattern r ≡ form_of d
 form_is (either a0 a1 a2 a3) = a0
 form_is (sequence a0 a1 a2) = a0
 form_is (constructor_with a0 a1 a2) = a0

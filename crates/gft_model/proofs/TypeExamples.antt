@@ -1,13 +1,14 @@
 -- Worked examples of types, each computed: values, cells and cases in order.
-use Rattle.std.proofs.Common.{◌≡◌, ℕ, List, [], ◌∷◌, false}
+use Rattle.std.proofs.Common.{◌≡◌, refl, ap, sym, ◌∙◌, ℕ, List, [], ◌∷◌, Some, None, false, arith}
 use Rattle.std.specs.Prelude.{codes}
 use Rattle.gft_syntax.specs.declared.reference.Whole.{Whole}
-use Rattle.gft_syntax.specs.declared.ctype.CType.{CType, roll-CType}
+use Rattle.gft_syntax.specs.declared.ctype.CType.{CType, out-CType, roll-CType}
 use Rattle.gft_syntax.specs.declared.ctype.CType.TheOpen as C
 use Rattle.gft_syntax.specs.declared.ctype.CType.TheFolds.{fold-roll-CType}
+use Rattle.gft_syntax.specs.declared.ctype.CType.TheViews.{out-roll-CType}
 use Rattle.gft_syntax.specs.declared.value.Param.{Param}
 use Rattle.gft_syntax.specs.declared.value.PathStep.TheVariants.{Label, Cell}
-use Rattle.gft_model.specs.ConcreteTypes.{values_of, cases_of, string_cells, is_finite}
+use Rattle.gft_model.specs.ConcreteTypes.{values_of, cases_of, string_cells, is_finite, field_of, IsSubtype, equal, fewer_labels, tables, numbers, functions, HasLabels, no_label, label}
 use Rattle.gft_model.proofs.Computing.{leaves-roll, part_values-roll}
 use Rattle.gft_model.specs.ValueForms.{con_param, number_param, record_param}
 
@@ -60,3 +61,48 @@ strings_have_one_case = simp leaves-roll
 -- Number => Str has no value among parameters
 pub tables_are_none : values_of (roll-CType (C.Table number str)) ≡ []
 tables_are_none = simp fold-roll-CType
+
+-- {s : Str} and {n : Number ; s : Str}
+abbrev small : List (List ℕ × CType)
+small = (codes "s", str) ∷ []
+
+abbrev large : List (List ℕ × CType)
+large = (codes "n", number) ∷ (codes "s", str) ∷ []
+
+abbrev record_of : List (List ℕ × CType) → CType
+record_of fs = roll-CType (C.Record fs)
+
+-- a record type with more labels is a subtype
+pub more_labels : IsSubtype (record_of large) (record_of small)
+more_labels = fewer_labels (out-roll-CType _) (out-roll-CType _) (label refl equal no_label)
+
+-- so is a table type of such a type over the same type
+pub tables_of_more : IsSubtype (roll-CType (C.Table number (record_of large))) (roll-CType (C.Table number (record_of small)))
+tables_of_more = tables (out-roll-CType _) (out-roll-CType _) more_labels
+
+-- and Ints 2 of Ints 5
+pub fewer_numbers : IsSubtype digit (roll-CType (C.Ints 5))
+fewer_numbers = numbers (out-roll-CType _) (out-roll-CType _) (omega arith)
+
+-- a record type with fewer labels is none
+lacks_n : {fs gs : List (List ℕ × CType)} → HasLabels fs gs → fs ≡ small → gs ≡ large → ⊥
+lacks_n no_label f g = cc
+lacks_n (label {fs = fs} {l = l} {T = T} e s h) f g =
+    let q : (l, T) ≡ (codes "n", number) = cc in
+    let x : l ≡ codes "n" = ap (λ (p : List ℕ × CType). p.0) q in
+    let k : None ≡ Some _ = sym (ap (λ (k : List ℕ). field_of k fs) x ∙ ap (field_of (codes "n")) f) ∙ e in cc
+
+pub fewer_are_none : {S T : CType} → IsSubtype S T → out-CType S ≡ C.Record small → out-CType T ≡ C.Record large → ⊥
+fewer_are_none equal f g = cc
+fewer_are_none (fewer_labels a b h) f g = lacks_n h (cc) (cc)
+fewer_are_none (tables a b c) f g = cc
+fewer_are_none (numbers a b c) f g = cc
+fewer_are_none (functions a b c d) f g = cc
+
+-- nor is a table type over another type
+pub other_domain : {S T V W : CType} → IsSubtype S T → out-CType S ≡ C.Table digit V → out-CType T ≡ C.Table number W → ⊥
+other_domain equal f g = let e : digit ≡ number = cc in let h = out-roll-CType (C.Ints 2) in let k = out-roll-CType (C.Param (whole (codes "Number")) ((whole (codes "Sg"), []) ∷ (whole (codes "Pl"), []) ∷ [])) in cc
+other_domain (fewer_labels a b h) f g = cc
+other_domain (tables a b c) f g = let e : digit ≡ number = cc in let h = out-roll-CType (C.Ints 2) in let k = out-roll-CType (C.Param (whole (codes "Number")) ((whole (codes "Sg"), []) ∷ (whole (codes "Pl"), []) ∷ [])) in cc
+other_domain (numbers a b c) f g = cc
+other_domain (functions a b c d) f g = cc

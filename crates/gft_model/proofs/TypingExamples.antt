@@ -1,18 +1,38 @@
--- Worked examples of typing: "a" ++ "b" is Str, and a number is nothing but Ints n.
-use Rattle.std.proofs.Common.{◌≡◌, ap, sym, ◌∙◌, ℕ, List, [], ◌∷◌, true, false}
-use Rattle.std.specs.Prelude.{codes}
+-- Worked examples of typing: a word, a record that is cut, a table, an overload, a Predef function.
+use Rattle.std.proofs.Common.{◌≡◌, refl, ap, sym, ◌∙◌, ℕ, zero, suc, List, [], ◌∷◌, Option, Some, None, Bool, true, false, subst, arith}
+use Rattle.std.specs.Prelude.{codes, IsTrue, slice_get}
+use Rattle.std.specs.List.{list_all, list_any}
 use Rattle.gft_core.specs.declared.place.Place.{Place}
-use Rattle.gft_syntax.specs.declared.ctype.CType.{CType, out-CType}
+use Rattle.gft_core.specs.Words.{words_of}
+use Rattle.gft_syntax.specs.declared.ctype.CType.{CType, out-CType, roll-CType}
+use Rattle.gft_syntax.specs.declared.ctype.CType.TheOpen as C
+use Rattle.gft_syntax.specs.declared.ctype.CType.TheViews.{out-roll-CType}
+use Rattle.gft_syntax.specs.declared.ctype.CType.TheFolds.{fold-roll-CType}
+use Rattle.gft_syntax.specs.declared.linear.Branches.TheVariants.{Matched}
 use Rattle.gft_syntax.specs.declared.linear.LinTerm.{LinTerm}
 use Rattle.gft_syntax.specs.declared.linear.LinTerm.TheOpen as L
+use Rattle.gft_syntax.specs.declared.linear.Predef.TheVariants.{Dp}
+use Rattle.gft_syntax.specs.declared.pattern.Pattern.{Pattern, out-Pattern, roll-Pattern}
+use Rattle.gft_syntax.specs.declared.pattern.Pattern.TheOpen as P
+use Rattle.gft_syntax.specs.declared.pattern.Pattern.TheViews.{out-roll-Pattern}
+use Rattle.gft_syntax.specs.declared.value.Param.TheViews.{out-roll-Param}
+use Rattle.gft_syntax.specs.declared.reference.Reference.TheVariants.{Written, Whole as WholeName}
+use Rattle.gft_syntax.specs.declared.reference.Whole.{Whole}
+use Rattle.gft_syntax.specs.declared.term.Case.{Case}
+use Rattle.gft_syntax.specs.declared.term.Local.TheVariants.{Value}
+use Rattle.gft_syntax.specs.declared.term.Sort.TheVariants as Sort
 use Rattle.gft_syntax.specs.declared.term.Term.{Term, roll-Term}
 use Rattle.gft_syntax.specs.declared.term.Term.TheOpen as F
-use Rattle.gft_core.specs.Words.{words_of}
-use Rattle.gft_model.specs.ConcreteTyping.{Finds, Checks, found, append, literal, same, passes, is_type_form, Spine, applied_to, variable, constructor_name, typed_oper, untyped_oper, alternative_alone, parameter_name, type_form, no_words, glue, number, predef, projection, application, overloaded, selection, branch_over, branch_of, item_of, case_found, table_found, list_found, record_found, tuple_found, extension, typed, let_found, alternatives_found, variants_found}
-use Rattle.gft_model.specs.Items.{Item}
-use Rattle.gft_model.specs.PatternTyping.{Scope}
-use Rattle.gft_model.proofs.Computing.{form-roll}
-use Rattle.gft_model.specs.TypeForms.{form, str_type, number_type, made}
+use Rattle.gft_model.specs.ConcreteTypes.{IsSubtype, fewer_labels, numbers, label, no_label, equal, values_of}
+use Rattle.gft_model.specs.ConcreteTyping.{IsData, IsType, Finds, Checks, Covers, patterns, passes, IsHead, Spine, Takes, takes, takes_none, Suits, Chosen, overloaded, Stands, an_overload, text_type, function_from, next_found, none_found, value_done, found, append, literal, number, same, cut, predef, application, applied_to, at_head, next_argument, no_argument_left, record_given, value_given, value_found, no_field, branches, branch, no_branch}
+use Rattle.gft_model.specs.Items.{Item, alternative}
+use Rattle.gft_model.specs.Matching.{match_of, is_matched, parameter}
+use Rattle.gft_model.specs.PatternTyping.{Scope, PatternFits, Constructs, arguments_of, sequence, variable, literal as text_literal, constructor_alone}
+use Rattle.gft_model.specs.TypeForms.{form, str_type, number_type, table_type, function_type, predef_type, predef_term, greatest, made}
+use Rattle.gft_model.proofs.Computing.{form-roll, match-roll}
+use Rattle.gft_model.proofs.TypeLaws.{type-once}
+use Rattle.gft_model.proofs.FoundTypes.{find-once, check_form, check_form_is, same-tag, apart-tags}
+use Rattle.gft_model.proofs.PatternLaws.{form_of, form_is}
 
 abbrev nowhere : Place
 nowhere = record { file = 0; line = 1; col = 1 }
@@ -23,51 +43,198 @@ word w = roll-Term (F.Lit w nowhere)
 abbrev words : List ℕ → LinTerm
 words w = made (L.Words (words_of w))
 
--- a literal fits Str
-literal_fits : (items : List Item) (w : List ℕ) → Checks items [] (word w) str_type (words w)
-literal_fits items w =
-    found (ap (λ d. passes d (out-CType str_type)) (form-roll (F.Lit w nowhere))) (literal (form-roll (F.Lit w nowhere))) same
+-- param Number = Sg | Pl, of a module M
+abbrev whole : List ℕ → Whole
+whole x = record { «module» = codes "M"; name = x }
 
-pub append_is_str : (items : List Item) →
-    Finds items [] (roll-Term (F.Concat (word (codes "a")) (word (codes "b")) nowhere)) str_type (made (L.Concat (words (codes "a")) (words (codes "b"))))
-append_is_str items = append (form-roll _) (literal_fits items (codes "a")) (literal_fits items (codes "b"))
+abbrev numbers_of : List (Whole × List CType)
+numbers_of = (whole (codes "Sg"), []) ∷ (whole (codes "Pl"), []) ∷ []
 
--- a number is no application
-no_spine : {e f a : Term} {es : List Term} (n : ℕ) (p : Place) → form e ≡ F.Num n p → Spine e [] f (a ∷ es) → ⊥
-no_spine n p h (applied_to k s) = cc
+abbrev number_of : CType
+number_of = roll-CType (C.Param (whole (codes "Number")) numbers_of)
 
-no_type_form : (d : F.Term-F Term) (n : ℕ) (p : Place) → d ≡ F.Num n p → is_type_form d ≡ true → ⊥
-no_type_form d n p h k = let e : false ≡ true = ap is_type_form (sym h) ∙ k in cc
+abbrev name : List ℕ → Pattern
+name x = roll-Pattern (P.Name (WholeName (whole x)) nowhere)
 
--- the type that is found for a number
-pub numbers_only : (items : List Item) {Γ : Scope} {e : Term} {T : CType} {t : LinTerm} (n : ℕ) (p : Place) → form e ≡ F.Num n p → Finds items Γ e T t → T ≡ number_type n
-numbers_only items n p h (variable k a) = cc
-numbers_only items n p h (constructor_name k a b c) = cc
-numbers_only items n p h (typed_oper j k a b) = cc
-numbers_only items n p h (untyped_oper j k a b) = cc
-numbers_only items n p h (alternative_alone j k a b) = cc
-numbers_only items n p h (parameter_name k a) = cc
-numbers_only items n p h (type_form a b) = absurd (no_type_form _ n p h a)
-numbers_only items n p h (literal k) = cc
-numbers_only items n p h (no_words k) = cc
-numbers_only items n p h (append k a b) = cc
-numbers_only items n p h (glue k a b) = cc
-numbers_only items n p h (number k) = cc
-numbers_only items n p h (predef k a b) = cc
-numbers_only items n p h (projection k a b c d) = cc
-numbers_only items n p h (application s a b c) = absurd (no_spine n p h s)
-numbers_only items n p h (overloaded j s a b c d) = absurd (no_spine n p h s)
-numbers_only items n p h (selection k a b c d) = cc
-numbers_only items n p h (branch_over k a b c d f) = cc
-numbers_only items n p h (branch_of k a b c d) = cc
-numbers_only items n p h (item_of k a b c d f g) = cc
-numbers_only items n p h (case_found k a b c) = cc
-numbers_only items n p h (table_found k a b c d) = cc
-numbers_only items n p h (list_found k a b c d) = cc
-numbers_only items n p h (record_found k a) = cc
-numbers_only items n p h (tuple_found k a) = cc
-numbers_only items n p h (extension k a b c d) = cc
-numbers_only items n p h (typed k a b) = cc
-numbers_only items n p h (let_found k a b) = cc
-numbers_only items n p h (alternatives_found k a) = cc
-numbers_only items n p h (variants_found k a) = cc
+abbrev text : List ℕ → Pattern
+text t = roll-Pattern (P.Text t nowhere)
+
+-- x + "y" fits Str and binds x
+pub sequence_fits : PatternFits str_type (roll-Pattern (P.Seq (roll-Pattern (P.Name (Written (codes "x")) nowhere)) (text (codes "y")) nowhere)) ((codes "x", str_type) ∷ [])
+sequence_fits = sequence (out-roll-Pattern _) (variable (out-roll-Pattern _)) (text_literal (out-roll-Pattern _))
+
+-- Pl fits Number and binds nothing
+constructs : (x : List ℕ) → arguments_of (whole x) numbers_of ≡ Some [] → Constructs (whole x) [] number_of
+constructs x k = record { type_name = whole (codes "Number"); constructors = numbers_of; is_type = out-roll-CType _; has = k }
+
+pub plural_fits : PatternFits number_of (name (codes "Pl")) []
+plural_fits = constructor_alone (out-roll-Pattern _) (constructs (codes "Pl") refl)
+
+-- a text fits nothing but Str
+pub texts_only : {T : CType} {r : Pattern} {Γ : Scope} (t : List ℕ) (p : Place) → PatternFits T r Γ → out-Pattern r ≡ P.Text t p → T ≡ str_type
+texts_only t p (text_literal a) h = refl
+texts_only t p d h = let k = form_is d in cc
+
+-- {s : Str} and {n : Ints 0 ; s : Str}
+abbrev small_fields : List (List ℕ × CType)
+small_fields = (codes "s", str_type) ∷ []
+
+abbrev large_fields : List (List ℕ × CType)
+large_fields = (codes "n", number_type 0) ∷ (codes "s", str_type) ∷ []
+
+abbrev small : CType
+small = roll-CType (C.Record small_fields)
+
+abbrev large : CType
+large = roll-CType (C.Record large_fields)
+
+abbrev zero_term : Term
+zero_term = roll-Term (F.Num 0 nowhere)
+
+-- table {x => "w" ; ..}
+abbrev branch_of : List ℕ → List ℕ → Case Term
+branch_of x w = record { pattern = name x; body = word w }
+
+abbrev table_of : List (Case Term) → Term
+table_of cs = roll-Term (F.TableOf None cs nowhere)
+
+abbrev apply : Term → Term → Term
+apply g a = roll-Term (F.App g a nowhere)
+
+abbrev is_application : F.Term-F Term → Bool
+is_application (F.App g a p) = true
+is_application d = false
+
+abbrev is_function : C.CType-F CType → Bool
+is_function (C.Fun A B) = true
+is_function d = false
+
+not_covered : ¬ Covers number_of (name (codes "Sg") ∷ [])
+not_covered h =
+    let k : list_all (λ v. list_any (λ p. is_matched (match_of p (parameter v))) (name (codes "Sg") ∷ [])) (values_of number_of) ≡ false
+        = simp (fold-roll-CType, match-roll, out-roll-Param) in
+    let e : false ≡ true = sym k ∙ h in cc
+
+module _ (items : List Item) where
+  -- a literal fits Str
+  literal_fits : {Γ : Scope} (w : List ℕ) → Checks items Γ (word w) str_type (words w)
+  literal_fits w = found (ap (λ d. passes d (out-CType str_type)) (form-roll (F.Lit w nowhere))) (literal (form-roll (F.Lit w nowhere))) same
+
+  -- "a" ++ "b" is found to be Str
+  pub append_is_str : Finds items [] (roll-Term (F.Concat (word (codes "a")) (word (codes "b")) nowhere)) str_type (made (L.Concat (words (codes "a")) (words (codes "b"))))
+  append_is_str = append (form-roll _) (literal_fits (codes "a")) (literal_fits (codes "b"))
+
+  -- a number is found to be nothing but Ints n
+  pub numbers_only : {Γ : Scope} {e : Term} {T : CType} {t : LinTerm} (n : ℕ) (p : Place) → form e ≡ F.Num n p → Finds items Γ e T t → T ≡ number_type n
+  numbers_only n p h d = (find-once items d (number h) refl refl).0
+
+  -- types that are no function types
+  data_of : (T : CType) (d : C.CType-F CType) → out-CType T ≡ d → is_function d ≡ false → IsData T
+  data_of T d h k A B f = let e : false ≡ true = sym k ∙ ap is_function (sym h ∙ f) in cc
+
+  str_data : IsData str_type
+  str_data = data_of _ C.Str (out-roll-CType _) refl
+
+  -- {s = "a" ; n = 0} given {s : Str} is cut to s
+  pub record_is_cut : Checks items [] (roll-Term (F.Fields (Value (codes "s" ∷ []) (word (codes "a")) ∷ Value (codes "n" ∷ []) zero_term ∷ []) nowhere)) small (made (L.Cut (made (L.Record ((codes "s", words (codes "a")) ∷ (codes "n", made (L.Num 0)) ∷ []))) large small))
+  record_is_cut = record_given (form-roll _) (out-roll-CType _)
+      (value_given refl (literal_fits (codes "a")) (value_done (value_found refl (number (form-roll _)) (data_of _ (C.Ints 0) (out-roll-CType _) refl) (value_done no_field))))
+      (cut (λ e. let h = out-roll-CType (C.Record large_fields) in let k = out-roll-CType (C.Record small_fields) in let i = ap out-CType e in cc)
+           (fewer_labels (out-roll-CType _) (out-roll-CType _) (label refl equal no_label)))
+
+  -- table {Sg => "a" ; Pl => "b"} fits Number => Str
+  pub table_fits : Checks items [] (table_of (branch_of (codes "Sg") (codes "a") ∷ branch_of (codes "Pl") (codes "b") ∷ [])) (table_type number_of str_type)
+      (made (L.Table number_of (Matched ((name (codes "Sg"), words (codes "a")) ∷ (name (codes "Pl"), words (codes "b")) ∷ []))))
+  table_fits = branches (form-roll _) (out-roll-CType _)
+      (branch (constructor_alone (out-roll-Pattern _) (constructs (codes "Sg") refl)) (literal_fits (codes "a")) str_data
+      (branch (constructor_alone (out-roll-Pattern _) (constructs (codes "Pl") refl)) (literal_fits (codes "b")) str_data no_branch))
+      (simp (fold-roll-CType, match-roll, out-roll-Param))
+
+  -- table {Sg => "a"} does not: Pl is left out
+  pub table_leaves_out : {V T : CType} {t : LinTerm} → Checks items [] (table_of (branch_of (codes "Sg") (codes "a") ∷ [])) T t → out-CType T ≡ C.Table number_of V → ⊥
+  table_leaves_out (branches {cs = cs} {P = P} a b c d) h =
+      let k = form-roll (F.TableOf None (branch_of (codes "Sg") (codes "a") ∷ []) nowhere) in
+      let e : P ≡ number_of = cc in let f : cs ≡ branch_of (codes "Sg") (codes "a") ∷ [] = cc in
+      not_covered (subst (λ (Q : CType). Covers Q (patterns (branch_of (codes "Sg") (codes "a") ∷ []))) e (subst (λ (ds : List (Case Term)). Covers P (patterns ds)) f d))
+  table_leaves_out {T = T} (found a b c) h = let k : false ≡ true = sym a ∙ ap (λ d. passes d (out-CType T)) (form-roll _) in cc
+  table_leaves_out d h = absurd (apart-tags _ _ refl (same-tag (form-roll _) refl (check_form_is items d)))
+
+  -- Predef.dp 2 "flies" is found to be Str; the 2 is cut to the greatest Ints
+  abbrev dp : Term
+  dp = roll-Term (F.Proj (roll-Term (F.Sort Sort.Predef nowhere)) (codes "dp") nowhere)
+
+  no_application : (g : Term) (d : F.Term-F Term) → form g ≡ d → is_application d ≡ false → (f a : Term) (p : Place) → ¬ (form g ≡ F.App f a p)
+  no_application g d h k f a p e = let i : false ≡ true = sym k ∙ ap is_application (sym h ∙ e) in cc
+
+  two_fits : Checks items [] (roll-Term (F.Num 2 nowhere)) (number_type greatest) (made (L.Cut (made (L.Num 2)) (number_type 2) (number_type greatest)))
+  two_fits = found (ap (λ d. passes d (out-CType (number_type greatest))) (form-roll _)) (number (form-roll _))
+      (cut (λ e. let h = out-roll-CType (C.Ints 2) in let k = out-roll-CType (C.Ints greatest) in let i = ap out-CType e in cc)
+           (numbers (out-roll-CType _) (out-roll-CType _) (omega arith)))
+
+  pub dp_is_str : Finds items [] (apply (apply dp (roll-Term (F.Num 2 nowhere))) (word (codes "flies"))) str_type
+      (made (L.App (made (L.App (predef_term Dp nowhere) (made (L.Cut (made (L.Num 2)) (number_type 2) (number_type greatest))))) (words (codes "flies"))))
+  dp_is_str = application
+      (applied_to (form-roll _) (applied_to (form-roll _) (at_head (no_application _ _ (form-roll _) refl))))
+      (predef (form-roll _) (form-roll _) refl)
+      (record { not_overloaded = λ w p h. let k = form-roll (F.Proj (roll-Term (F.Sort Sort.Predef nowhere)) (codes "dp") nowhere) in absurd (cc); not_ints = λ p h. let k = form-roll (F.Proj (roll-Term (F.Sort Sort.Predef nowhere)) (codes "dp") nowhere) in cc })
+      (next_argument (out-roll-CType _) two_fits (next_argument (out-roll-CType _) (literal_fits (codes "flies")) no_argument_left))
+
+-- f = overload {f : Str -> Str ; f : Str -> Str -> Str}
+abbrev str_term : Term
+str_term = roll-Term (F.Sort Sort.Str nowhere)
+
+abbrev one_word : Term
+one_word = roll-Term (F.Arrow [] str_term str_term nowhere)
+
+abbrev two_words : Term
+two_words = roll-Term (F.Arrow [] str_term one_word nowhere)
+
+abbrev overload : List Item
+overload = alternative (whole (codes "f")) None [] one_word zero_term ∷ alternative (whole (codes "f")) None [] two_words zero_term ∷ []
+
+abbrev f : Term
+f = roll-Term (F.Var (WholeName (whole (codes "f"))) nowhere)
+
+abbrev from_str : CType → CType
+from_str T = function_type str_type T
+
+one_is : IsType overload one_word (from_str str_type)
+one_is = function_from (form-roll _) (text_type (form-roll _)) (str_data overload) (text_type (form-roll _))
+
+two_is : IsType overload two_words (from_str (from_str str_type))
+two_is = function_from (form-roll _) (text_type (form-roll _)) (str_data overload) one_is
+
+abbrev second_on : LinTerm → LinTerm → LinTerm
+second_on t u = made (L.App (made (L.App (made (L.Oper 1)) t)) u)
+
+suits_second : (t u : LinTerm) → Suits overload (whole (codes "f")) (str_type ∷ str_type ∷ []) (t ∷ u ∷ []) 1 str_type (second_on t u)
+suits_second t u = record {
+  before = None; binds = []; written = two_words; definition = zero_term; its_type = from_str (from_str str_type); stands = refl; is_type = two_is;
+  taken = takes (out-roll-CType _) same (takes (out-roll-CType _) same (takes_none (str_data overload)));
+}
+
+-- an alternative with one parameter does not take two arguments
+no_function : {F R : CType} {Ss : List CType} {t u : LinTerm} {vs : List LinTerm} → Takes overload F t Ss vs R u → F ≡ str_type → Ss ≡ str_type ∷ [] → ⊥
+no_function (takes_none a) e g = cc
+no_function (takes a b c) e g = let j = out-roll-CType C.Str in let l = ap out-CType e in cc
+
+one_takes_one : {F R : CType} {Ss : List CType} {t u : LinTerm} {vs : List LinTerm} → Takes overload F t Ss vs R u → F ≡ from_str str_type → Ss ≡ str_type ∷ str_type ∷ [] → ⊥
+one_takes_one (takes_none a) e g = cc
+one_takes_one (takes a b c) e g = let k = out-roll-CType (C.Fun str_type str_type) in let l = ap out-CType e in no_function c (cc) (cc)
+
+only_second : (t u : LinTerm) (j : ℕ) (S : CType) (v : LinTerm) → Suits overload (whole (codes "f")) (str_type ∷ str_type ∷ []) (t ∷ u ∷ []) j S v → j ≡ 1
+only_second t u zero S v s = let h = s.stands in
+    let i : one_word ≡ s.written = cc in absurd (one_takes_one s.taken (type-once overload s.is_type one_is (sym i)) refl)
+only_second t u (suc zero) S v s = refl
+only_second t u (suc (suc j)) S v s = let h = s.stands in cc
+
+-- f "a" "b" is found to be Str, and means the second alternative
+pub overload_is_chosen : Finds overload [] (apply (apply f (word (codes "a"))) (word (codes "b"))) str_type (second_on (words (codes "a")) (words (codes "b")))
+overload_is_chosen = overloaded 1
+    (applied_to (form-roll _) (applied_to (form-roll _) (at_head (no_application overload _ _ (form-roll _) refl)))) (form-roll _) refl
+    (next_found (literal (form-roll _)) (next_found (literal (form-roll _)) none_found))
+    (record { suits = suits_second _ _; alone = only_second _ _ })
+
+-- and nothing else
+pub overload_is_chosen_once : {R : CType} {t : LinTerm} → Finds overload [] (apply (apply f (word (codes "a"))) (word (codes "b"))) R t → (R ≡ str_type) × (t ≡ second_on (words (codes "a")) (words (codes "b")))
+overload_is_chosen_once d = find-once overload d overload_is_chosen refl refl

@@ -1,7 +1,7 @@
 -- Concrete typing: which terms are types, which types are found for terms and which terms fit a
 -- given type, each with the typed term that says what the term means.
-use Rattle.std.specs.Prelude.{◌≡◌, ℕ, suc, ◌+◌, ◌≤◌, List, [], ◌∷◌, ◌++◌, map, reverse, length, ◌⊎◌, Option, Some, None, All, IsTrue, Bool, true, false, ◌&&◌, bytes_eq, if◌then◌else◌, slice_get}
-use Rattle.std.specs.List.{list_any}
+use Rattle.std.specs.Prelude.{◌≡◌, ℕ, suc, ◌+◌, ◌≤◌, List, [], ◌∷◌, ◌++◌, map, reverse, length, ◌⊎◌, Option, Some, None, IsTrue, Bool, true, false, ◌&&◌, bytes_eq, if◌then◌else◌, slice_get}
+use Rattle.std.specs.List.{list_all, list_any}
 use Rattle.gft_core.specs.Words.{words_of}
 use Rattle.gft_core.specs.declared.place.Place.{Place}
 use Rattle.gft_syntax.specs.declared.bind.Bind.{Bind}
@@ -44,7 +44,7 @@ IsDomain P = (is_finite P ≡ true) × (count_of P ≤ most_values)
 
 -- each value of the type is matched by some pattern
 abbrev pub Covers : CType → List Pattern → Type 0
-Covers P ps = All (λ v. IsTrue (list_any (λ p. is_matched (match_of p (parameter v))) ps)) (values_of P)
+Covers P ps = IsTrue (list_all (λ v. list_any (λ p. is_matched (match_of p (parameter v))) ps) (values_of P))
 
 -- what may be selected over directly: a domain whose values are covered, or texts
 abbrev pub IsCovered : CType → List Pattern → Type 0
