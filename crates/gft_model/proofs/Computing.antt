@@ -29,12 +29,12 @@ use Rattle.gft_core.specs.declared.symbol.Sym.{Sym}
 use Rattle.gft_model.specs.Productions.{CaseValues, layer_params, case_values_step, case_of, parameters_step}
 use Rattle.gft_model.specs.TreeStrings.{first_string, first_string_step}
 use Rattle.gft_model.specs.TreeValues.{Default, default_step, default_value_step, string_leaves, leaves_of_step, Numbered, number_step, AtPosition, value_of_layer, bracketed_values}
-use Rattle.gft_model.specs.TypeForms.{form, as_name}
+use Rattle.gft_model.specs.TypeForms.{form, plain_form}
 use Rattle.gft_model.specs.Values.{same_param, same_step, cut_value, cut_step}
 
-pub form-roll : (d : Layer) → form (roll-Term d) ≡ as_name d
+pub form-roll : (d : Layer) → form (roll-Term d) ≡ plain_form d
 unfolding form
-form-roll d = ap as_name (out-roll-Term d)
+form-roll d = ap plain_form (out-roll-Term d)
 
 pub results-roll : (opers : ℕ → Results) (d : LinTerm-F LinTerm) (env : Environment) →
     results_of opers (roll-LinTerm d) env ≡ step opers (map-LinTerm LinTerm (Environment → Results) (results_of opers) d) env

@@ -16,10 +16,10 @@ use Rattle.gft_syntax.specs.declared.term.Sort.TheVariants as Sort
 use Rattle.gft_syntax.specs.declared.term.Term.{Term}
 use Rattle.gft_syntax.specs.declared.term.Term.TheOpen as F
 use Rattle.gft_model.specs.ConcreteTypes.{IsSubtype, equal, fewer_labels, tables, numbers, functions}
-use Rattle.gft_model.specs.ConcreteTyping.{is_record, is_type_form, is_table_expression, passes, Spine, applied_to, at_head, Fits, same, cut, sort, IsType, IsHead, Stands, a_parameter, Takes, takes_none, takes, Suits, Chosen, parameter_of, AreLabels, no_label, label, text_type, type_of_types, type_of_parameters, numbers_to, labels, table_over, function_from, pair_of, parameters_named, oper_named, definition_named, with_names, with_lets, Finds, Checks, ChecksLambda, body, binds, ChecksTable, cell, over, ChecksArguments, no_argument_left, next_argument, FindsAll, none_found, next_found, MembersFind, first_member, MembersCheck, no_member, member, BranchesFind, first_branch, BranchesCheck, no_branch, branch, FieldsHave, no_field, value_done, value_given, value_found, typed_done, typed_given, typed_alone, Defines, no_local, local, typed_local, variable, constructor_name, typed_oper, untyped_oper, alternative_alone, parameter_name, literal, no_words, append, glue, number, predef, projection, application, overloaded, selection, branch_over, branch_of, item_of, case_found, table_found, list_found, record_found, tuple_found, extension, typed, let_found, alternatives_found, variants_found, lambda, table_lambda, branches, branches_over, listed, record_given, tuple_given, let_given, case_given, alternatives_given, variants_given, empty_type, parameter_given, found, type_form}
+use Rattle.gft_model.specs.ConcreteTyping.{is_record, is_type_form, is_table_expression, passes, Spine, applied_to, at_head, Fits, same, cut, sort, IsType, IsHead, Stands, a_parameter, Takes, takes_none, takes, Suits, Chosen, parameter_of, AreLabels, no_label, label, text_type, type_of_types, type_of_parameters, numbers_to, labels, table_over, function_from, pair_of, parameters_named, oper_named, definition_named, with_names, with_lets, Finds, Checks, ChecksLambda, body, binds, ChecksTable, cell, over, ChecksArguments, no_argument_left, next_argument, FindsAll, none_found, next_found, MembersFind, first_member, MembersCheck, no_member, member, BranchesFind, first_branch, BranchesCheck, no_branch, branch, FieldsHave, no_field, value_done, value_given, value_found, typed_done, typed_given, typed_alone, Defines, no_local, local, typed_local, variable, constructor_name, typed_oper, untyped_oper, alternative_alone, parameter_name, literal, append, glue, number, predef, projection, application, overloaded, selection, branch_over, branch_of, item_of, case_found, table_found, list_found, record_found, extension, typed, let_found, variants_found, lambda, table_lambda, branches, branches_over, listed, record_given, let_given, case_given, variants_given, empty_type, parameter_given, found, type_form}
 use Rattle.gft_model.specs.Items.{Item}
 use Rattle.gft_model.specs.PatternTyping.{Scope}
-use Rattle.gft_model.specs.TypeForms.{form, sort_type, tuple_locals, record_type}
+use Rattle.gft_model.specs.TypeForms.{form, sort_type, record_type}
 use Rattle.gft_model.specs.Values.{extended}
 use Rattle.gft_model.proofs.PatternLaws.{fits-once, same-arguments}
 use Rattle.gft_model.proofs.TypeLaws.{type-once, parameter-once}
@@ -87,9 +87,6 @@ apart-tables h k e i j = cc
 
 apart-heads : {e d f r : Term} {x y : List ℕ} {p q s : Place} → form e ≡ F.Proj f x p → form d ≡ F.Proj r y s → e ≡ d → form f ≡ F.Sort Sort.Predef q → form r ≡ F.Sort Sort.Predef q
 apart-heads h k e i = cc
-
-tuple-items : {e f : Term} {es ds : List Term} {p q : Place} → e ≡ f → form e ≡ F.Tuple es p → form f ≡ F.Tuple ds q → es ≡ ds
-tuple-items e h k = cc
 
 same-extension : {S T U V : CType} {fs gs hs ks : List (List ℕ × CType)} → S ≡ U → T ≡ V → out-CType S ≡ C.Record fs → out-CType T ≡ C.Record gs → out-CType U ≡ C.Record hs → out-CType V ≡ C.Record ks →
     record_type (extended fs gs) ≡ record_type (extended hs ks)
@@ -230,7 +227,6 @@ module _ (items : List Item) where
   form_of (alternative_alone {w = w} k {p = p} a0 a1 a2) = F.Var (WholeName w) p
   form_of (parameter_name {w = w} {p = p} a0 a1) = F.Var (WholeName w) p
   form_of (literal {text = s} {p = p} a0) = F.Lit s p
-  form_of (no_words {p = p} a0) = F.Empty p
   form_of (append {a = a} {b = b} {p = p} a0 a1 a2) = F.Concat a b p
   form_of (glue {a = a} {b = b} {p = p} a0 a1 a2) = F.Glue a b p
   form_of (number {n = n} {p = p} a0) = F.Num n p
@@ -246,11 +242,9 @@ module _ (items : List Item) where
   form_of (table_found {P = P} {cs = cs} {p = p} a0 a1 a2 a3 a4) = F.TableOf (Some P) cs p
   form_of (list_found {P = P} {es = es} {p = p} a0 a1 a2 a3 a4) = F.TableList P es p
   form_of (record_found {ls = ls} {p = p} a0 a1) = F.Fields ls p
-  form_of (tuple_found {es = es} {p = p} a0 a1) = F.Tuple es p
   form_of (extension {a = a} {b = b} {p = p} a0 a1 a2 a3 a4) = F.Extend a b p
   form_of (typed {a = a} {b = b} {p = p} a0 a1 a2) = F.Typed a b p
   form_of (let_found {b = b} {ls = ls} {p = p} a0 a1 a2) = F.Let ls b p
-  form_of (alternatives_found {a = a} {b = b} {p = p} a0 a1) = F.Alt a b p
   form_of (variants_found {es = es} {p = p} a0 a1) = F.Variants es p
   form_of (type_form {e = e} a0 a1) = form e
 
@@ -262,7 +256,6 @@ module _ (items : List Item) where
   form_is (alternative_alone k a0 a1 a2) = a0
   form_is (parameter_name a0 a1) = a0
   form_is (literal a0) = a0
-  form_is (no_words a0) = a0
   form_is (append a0 a1 a2) = a0
   form_is (glue a0 a1 a2) = a0
   form_is (number a0) = a0
@@ -278,11 +271,9 @@ module _ (items : List Item) where
   form_is (table_found a0 a1 a2 a3 a4) = a0
   form_is (list_found a0 a1 a2 a3 a4) = a0
   form_is (record_found a0 a1) = a0
-  form_is (tuple_found a0 a1) = a0
   form_is (extension a0 a1 a2 a3 a4) = a0
   form_is (typed a0 a1 a2) = a0
   form_is (let_found a0 a1 a2) = a0
-  form_is (alternatives_found a0 a1) = a0
   form_is (variants_found a0 a1) = a0
   form_is (type_form a0 a1) = refl
 
@@ -293,10 +284,8 @@ module _ (items : List Item) where
   check_form (branches_over {D = D} {cs = cs} {p = p} a0 a1 a2 a3 a4) = F.TableOf (Some D) cs p
   check_form (listed {D = D} {es = es} {p = p} a0 a1 a2 a3 a4) = F.TableList D es p
   check_form (record_given {ls = ls} {p = p} a0 a1 a2 a3) = F.Fields ls p
-  check_form (tuple_given {es = es} {p = p} a0 a1 a2 a3) = F.Tuple es p
   check_form (let_given {b = b} {ls = ls} {p = p} a0 a1 a2) = F.Let ls b p
   check_form (case_given {b = b} {cs = cs} {p = p} a0 a1 a2 a3) = F.CaseOf b cs p
-  check_form (alternatives_given {a = a} {b = b} {p = p} a0 a1) = F.Alt a b p
   check_form (variants_given {es = es} {p = p} a0 a1) = F.Variants es p
   check_form (empty_type {p = p} a0) = F.Fields [] p
   check_form (parameter_given {w = w} {p = p} a0 a1 a2 a3) = F.Var (WholeName w) p
@@ -309,10 +298,8 @@ module _ (items : List Item) where
   check_form_is (branches_over a0 a1 a2 a3 a4) = a0
   check_form_is (listed a0 a1 a2 a3 a4) = a0
   check_form_is (record_given a0 a1 a2 a3) = a0
-  check_form_is (tuple_given a0 a1 a2 a3) = a0
   check_form_is (let_given a0 a1 a2) = a0
   check_form_is (case_given a0 a1 a2 a3) = a0
-  check_form_is (alternatives_given a0 a1) = a0
   check_form_is (variants_given a0 a1) = a0
   check_form_is (empty_type a0) = a0
   check_form_is (parameter_given a0 a1 a2 a3) = a0
@@ -336,7 +323,6 @@ module _ (items : List Item) where
   empty-found (alternative_alone ak a0 a1 a2) h = cc
   empty-found (parameter_name a0 a1) h = cc
   empty-found (literal a0) h = cc
-  empty-found (no_words a0) h = cc
   empty-found (append a0 a1 a2) h = cc
   empty-found (glue a0 a1 a2) h = cc
   empty-found (number a0) h = cc
@@ -352,11 +338,9 @@ module _ (items : List Item) where
   empty-found (table_found a0 a1 a2 a3 a4) h = cc
   empty-found (list_found a0 a1 a2 a3 a4) h = cc
   empty-found (record_found a0 a1) h = ap record_type (fields-empty a1 (cc))
-  empty-found (tuple_found a0 a1) h = cc
   empty-found (extension a0 a1 a2 a3 a4) h = cc
   empty-found (typed a0 a1 a2) h = cc
   empty-found (let_found a0 a1 a2) h = cc
-  empty-found (alternatives_found a0 a1) h = cc
   empty-found (variants_found a0 a1) h = cc
   empty-found {p = p} (type_form a0 a1) h = let k : is_type_form (F.Fields [] p) ≡ true = ap is_type_form (sym h) ∙ a0 in absurd (apart k)
 
@@ -403,9 +387,6 @@ module _ (items : List Item) where
     find-once (literal a0) (literal b0) g e = (refl, cc)
     find-once (literal a0) (type_form b0 b1) g e = let k : false ≡ true = ap is_type_form (sym a0 ∙ ap form e) ∙ b0 in absurd (apart k)
     find-once (literal a0) d g e = absurd (apart-tags _ _ refl (same-tag a0 e (form_is d)))
-    find-once (no_words a0) (no_words b0) g e = (refl, refl)
-    find-once (no_words a0) (type_form b0 b1) g e = let k : false ≡ true = ap is_type_form (sym a0 ∙ ap form e) ∙ b0 in absurd (apart k)
-    find-once (no_words a0) d g e = absurd (apart-tags _ _ refl (same-tag a0 e (form_is d)))
     find-once (append a0 a1 a2) (append b0 b1 b2) g e = let i = check-once a1 b1 g (cc) refl in let j = check-once a2 b2 g (cc) refl in (refl, cc)
     find-once (append a0 a1 a2) (type_form b0 b1) g e = let k : false ≡ true = ap is_type_form (sym a0 ∙ ap form e) ∙ b0 in absurd (apart k)
     find-once (append a0 a1 a2) d g e = absurd (apart-tags _ _ refl (same-tag a0 e (form_is d)))
@@ -467,9 +448,6 @@ module _ (items : List Item) where
     find-once (record_found a0 a1) (record_found b0 b1) g e = let i = fields-have a1 b1 g refl (cc) in (cc, cc)
     find-once (record_found a0 a1) (type_form b0 b1) g e = absurd (no_record a0 a1 b0 b1 e)
     find-once (record_found a0 a1) d g e = absurd (apart-tags _ _ refl (same-tag a0 e (form_is d)))
-    find-once (tuple_found a0 a1) (tuple_found b0 b1) g e = let k : _ ≡ _ = tuple-items e a0 b0 in let i = fields-have a1 b1 g refl (ap (tuple_locals 0) k) in (cc, cc)
-    find-once (tuple_found a0 a1) (type_form b0 b1) g e = let k : false ≡ true = ap is_type_form (sym a0 ∙ ap form e) ∙ b0 in absurd (apart k)
-    find-once (tuple_found a0 a1) d g e = absurd (apart-tags _ _ refl (same-tag a0 e (form_is d)))
     find-once (extension a0 a1 a2 a3 a4) (extension b0 b1 b2 b3 b4) g e = let i = find-once a1 b1 g (cc) in let j = find-once a3 b3 g (cc) in (same-extension i.0 j.0 a2 a4 b2 b4, cc)
     find-once (extension a0 a1 a2 a3 a4) (type_form b0 b1) g e = let k : false ≡ true = ap is_type_form (sym a0 ∙ ap form e) ∙ b0 in absurd (apart k)
     find-once (extension a0 a1 a2 a3 a4) d g e = absurd (apart-tags _ _ refl (same-tag a0 e (form_is d)))
@@ -479,9 +457,6 @@ module _ (items : List Item) where
     find-once (let_found a0 a1 a2) (let_found b0 b1 b2) g e = let i = defines-once a1 b1 g (cc) in let j = find-once a2 b2 i.0 (cc) in (j.0, cc)
     find-once (let_found a0 a1 a2) (type_form b0 b1) g e = let k : false ≡ true = ap is_type_form (sym a0 ∙ ap form e) ∙ b0 in absurd (apart k)
     find-once (let_found a0 a1 a2) d g e = absurd (apart-tags _ _ refl (same-tag a0 e (form_is d)))
-    find-once (alternatives_found a0 a1) (alternatives_found b0 b1) g e = let i = members-found a1 b1 g (cc) in (i.0, cc)
-    find-once (alternatives_found a0 a1) (type_form b0 b1) g e = let k : false ≡ true = ap is_type_form (sym a0 ∙ ap form e) ∙ b0 in absurd (apart k)
-    find-once (alternatives_found a0 a1) d g e = absurd (apart-tags _ _ refl (same-tag a0 e (form_is d)))
     find-once (variants_found a0 a1) (variants_found b0 b1) g e = let i = members-found a1 b1 g (cc) in (i.0, cc)
     find-once (variants_found a0 a1) (type_form b0 b1) g e = let k : false ≡ true = ap is_type_form (sym a0 ∙ ap form e) ∙ b0 in absurd (apart k)
     find-once (variants_found a0 a1) d g e = absurd (apart-tags _ _ refl (same-tag a0 e (form_is d)))
@@ -518,10 +493,6 @@ module _ (items : List Item) where
     check-once (record_given a0 a1 a2 a3) (found b0 b1 b2) g e s = absurd (passes-clash a0 e s (ap is_record a1) b0)
     check-once (record_given a0 a1 a2 a3) (empty_type b0) g e s = let i = out-roll-CType C.TypeSort in cc
     check-once (record_given a0 a1 a2 a3) d g e s = absurd (apart-tags _ _ refl (same-tag a0 e (check_form_is d)))
-    check-once (tuple_given a0 a1 a2 a3) (tuple_given b0 b1 b2 b3) g e s = let k = tuple-items e a0 b0 in let i = fields-have a2 b2 g (cc) (ap (tuple_locals 0) k) in fits-same a3 b3 (cc) s (cc)
-    check-once (found a0 a1 a2) (tuple_given b0 b1 b2 b3) g e s = absurd (passes-clash b0 (sym e) (sym s) (ap is_record b1) a0)
-    check-once (tuple_given a0 a1 a2 a3) (found b0 b1 b2) g e s = absurd (passes-clash a0 e s (ap is_record a1) b0)
-    check-once (tuple_given a0 a1 a2 a3) d g e s = absurd (apart-tags _ _ refl (same-tag a0 e (check_form_is d)))
     check-once (let_given a0 a1 a2) (let_given b0 b1 b2) g e s = let i = defines-once a1 b1 g (cc) in same-lets i.1 (check-once a2 b2 i.0 (cc) s)
     check-once (found a0 a1 a2) (let_given b0 b1 b2) g e s = absurd (passes-clash b0 (sym e) (sym s) refl a0)
     check-once (let_given a0 a1 a2) (found b0 b1 b2) g e s = absurd (passes-clash a0 e s refl b0)
@@ -530,10 +501,6 @@ module _ (items : List Item) where
     check-once (found a0 a1 a2) (case_given b0 b1 b2 b3) g e s = absurd (passes-clash b0 (sym e) (sym s) refl a0)
     check-once (case_given a0 a1 a2 a3) (found b0 b1 b2) g e s = absurd (passes-clash a0 e s refl b0)
     check-once (case_given a0 a1 a2 a3) d g e s = absurd (apart-tags _ _ refl (same-tag a0 e (check_form_is d)))
-    check-once (alternatives_given a0 a1) (alternatives_given b0 b1) g e s = let i = members-checked a1 b1 g (cc) s in cc
-    check-once (found a0 a1 a2) (alternatives_given b0 b1) g e s = absurd (passes-clash b0 (sym e) (sym s) refl a0)
-    check-once (alternatives_given a0 a1) (found b0 b1 b2) g e s = absurd (passes-clash a0 e s refl b0)
-    check-once (alternatives_given a0 a1) d g e s = absurd (apart-tags _ _ refl (same-tag a0 e (check_form_is d)))
     check-once (variants_given a0 a1) (variants_given b0 b1) g e s = let i = members-checked a1 b1 g (cc) s in cc
     check-once (found a0 a1 a2) (variants_given b0 b1) g e s = absurd (passes-clash b0 (sym e) (sym s) refl a0)
     check-once (variants_given a0 a1) (found b0 b1 b2) g e s = absurd (passes-clash a0 e s refl b0)

@@ -27,7 +27,7 @@ use Rattle.gft_model.specs.ConcreteTypes.{field_of, is_finite, count_of, values_
 use Rattle.gft_model.specs.Items.{Item, parameter_type, bare_parameter, oper, alternative, lincat, lin, lindef, linref}
 use Rattle.gft_model.specs.Matching.{same_whole, parameter, match_of, is_matched}
 use Rattle.gft_model.specs.PatternTyping.{Scope, PatternFits, Constructs}
-use Rattle.gft_model.specs.TypeForms.{form, str_type, number_type, record_type, table_type, functions, sort_type, sort_param, tuple_fields, tuple_locals, made, no_value, bound, with_bound, bound_pattern, constructor_term, predef_type, predef_term, predef_named}
+use Rattle.gft_model.specs.TypeForms.{form, str_type, number_type, record_type, table_type, functions, sort_type, sort_param, tuple_fields, made, no_value, bound, with_bound, bound_pattern, constructor_term, predef_type, predef_term, predef_named}
 use Rattle.gft_model.specs.Values.{extended}
 
 -- a type of data: no function type. Functions stand nowhere else but in opers and what they give
@@ -64,19 +64,17 @@ abbrev pub is_record : CType-F.CType-F CType → Bool
 is_record (CType-F.Record fs) = true
 is_record T = false
 
--- forms that pass a given type on to their parts; every other form is found. Records and tuples do
--- so where a record type is given, and tables where a table type is
+-- forms that pass a given type on to their parts; every other form is found, and so is a record where
+-- no record type is given
 abbrev pub passes : Layer → CType-F.CType-F CType → Bool
 passes (Term-F.Fun xs e place) T = true
 passes (Term-F.TabFun xs e place) T = true
 passes (Term-F.Let ls e place) T = true
 passes (Term-F.CaseOf e cs place) T = true
-passes (Term-F.Alt a b place) T = true
 passes (Term-F.Variants es place) T = true
 passes (Term-F.TableOf P cs place) T = true
 passes (Term-F.TableList P es place) T = true
 passes (Term-F.Fields ls place) T = is_record T
-passes (Term-F.Tuple es place) T = is_record T
 passes d T = false
 
 -- a table expression: one that stands on the left of ! is selected from directly
@@ -265,8 +263,6 @@ module _ (items : List Item) where
           Finds Γ e sort_type no_value
       literal : {Γ : Scope} {e : Term} {text : List ℕ} {p : Place} → form e ≡ Term-F.Lit text p →
           Finds Γ e str_type (made (Lin-F.Words (words_of text)))
-      no_words : {Γ : Scope} {e : Term} {p : Place} → form e ≡ Term-F.Empty p →
-          Finds Γ e str_type (made (Lin-F.Words []))
       append : {Γ : Scope} {e a b : Term} {p : Place} {t u : LinTerm} →
           form e ≡ Term-F.Concat a b p → Checks Γ a str_type t → Checks Γ b str_type u →
           Finds Γ e str_type (made (Lin-F.Concat t u))
@@ -318,9 +314,6 @@ module _ (items : List Item) where
       record_found : {Γ : Scope} {e : Term} {ls : List (Local Term)} {p : Place} {fs : List (List ℕ × CType)} {ts : List (List ℕ × LinTerm)} →
           form e ≡ Term-F.Fields ls p → FieldsHave Γ [] ls fs ts →
           Finds Γ e (record_type fs) (made (Lin-F.Record ts))
-      tuple_found : {Γ : Scope} {e : Term} {es : List Term} {p : Place} {fs : List (List ℕ × CType)} {ts : List (List ℕ × LinTerm)} →
-          form e ≡ Term-F.Tuple es p → FieldsHave Γ [] (tuple_locals 0 es) fs ts →
-          Finds Γ e (record_type fs) (made (Lin-F.Record ts))
       extension : {Γ : Scope} {e a b : Term} {p : Place} {S T : CType} {fs gs : List (List ℕ × CType)} {t u : LinTerm} →
           form e ≡ Term-F.Extend a b p → Finds Γ a S t → out-CType S ≡ CType-F.Record fs →
           Finds Γ b T u → out-CType T ≡ CType-F.Record gs →
@@ -330,9 +323,6 @@ module _ (items : List Item) where
       let_found : {Γ Δ : Scope} {e b : Term} {ls : List (Local Term)} {p : Place} {ds : List (List (List ℕ) × LinTerm)} {T : CType} {t : LinTerm} →
           form e ≡ Term-F.Let ls b p → Defines Γ ls Δ ds → Finds Δ b T t →
           Finds Γ e T (with_lets ds t)
-      alternatives_found : {Γ : Scope} {e a b : Term} {p : Place} {T : CType} {ts : List LinTerm} →
-          form e ≡ Term-F.Alt a b p → MembersFind Γ (a ∷ b ∷ []) T ts →
-          Finds Γ e T (made (Lin-F.Variants ts))
       variants_found : {Γ : Scope} {e : Term} {es : List Term} {p : Place} {T : CType} {ts : List LinTerm} →
           form e ≡ Term-F.Variants es p → MembersFind Γ es T ts →
           Finds Γ e T (made (Lin-F.Variants ts))
@@ -359,19 +349,12 @@ module _ (items : List Item) where
           form e ≡ Term-F.Fields ls p → out-CType T ≡ CType-F.Record gs →
           FieldsHave Γ gs ls fs ts → Fits (record_type fs) T (made (Lin-F.Record ts)) t →
           Checks Γ e T t
-      tuple_given : {Γ : Scope} {e : Term} {es : List Term} {p : Place} {T : CType} {fs gs : List (List ℕ × CType)} {ts : List (List ℕ × LinTerm)} {t : LinTerm} →
-          form e ≡ Term-F.Tuple es p → out-CType T ≡ CType-F.Record gs →
-          FieldsHave Γ gs (tuple_locals 0 es) fs ts →
-          Fits (record_type fs) T (made (Lin-F.Record ts)) t → Checks Γ e T t
       let_given : {Γ Δ : Scope} {e b : Term} {ls : List (Local Term)} {p : Place} {ds : List (List (List ℕ) × LinTerm)} {T : CType} {t : LinTerm} →
           form e ≡ Term-F.Let ls b p → Defines Γ ls Δ ds → Checks Δ b T t →
           Checks Γ e T (with_lets ds t)
       case_given : {Γ : Scope} {e b : Term} {cs : List (Case Term)} {p : Place} {S T : CType} {u : LinTerm} {bs : List (Pattern × LinTerm)} →
           form e ≡ Term-F.CaseOf b cs p → Finds Γ b S u → BranchesCheck Γ S cs T bs →
           IsCovered S (patterns cs) → Checks Γ e T (made (Lin-F.Case u (Matched bs) p))
-      alternatives_given : {Γ : Scope} {e a b : Term} {p : Place} {T : CType} {ts : List LinTerm} →
-          form e ≡ Term-F.Alt a b p → MembersCheck Γ (a ∷ b ∷ []) T ts →
-          Checks Γ e T (made (Lin-F.Variants ts))
       variants_given : {Γ : Scope} {e : Term} {es : List Term} {p : Place} {T : CType} {ts : List LinTerm} →
           form e ≡ Term-F.Variants es p → MembersCheck Γ es T ts →
           Checks Γ e T (made (Lin-F.Variants ts))

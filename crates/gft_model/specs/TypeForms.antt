@@ -21,14 +21,6 @@ use Rattle.gft_syntax.specs.declared.term.Local.TheVariants.{Value}
 use Rattle.gft_model.specs.Matching.{tuple_label}
 use Rattle.gft_model.specs.Values.{extended}
 
--- the form of a term, where [C] is a name as any other
-abbrev pub as_name : Layer → Layer
-as_name (Term-F.ListCat (WholeName w) place) = Term-F.Var (WholeName w) place
-as_name d = d
-
-unfoldable pub form : Term → Layer
-form e = as_name (out-Term e)
-
 abbrev pub str_type : CType
 str_type = roll-CType CType-F.Str
 
@@ -65,6 +57,18 @@ tuple_fields n (a ∷ es) = (tuple_label n, a) ∷ tuple_fields (suc n) es
 abbrev pub tuple_locals : ℕ → List Term → List (Local Term)
 tuple_locals n [] = []
 tuple_locals n (e ∷ es) = Value (tuple_label n ∷ []) e ∷ tuple_locals (suc n) es
+
+-- the form of a term without other spellings: [C] is a name, [] the literal of no words, a | b is
+-- variants {a ; b}, and a tuple is the record of its items
+abbrev pub plain_form : Layer → Layer
+plain_form (Term-F.ListCat (WholeName w) place) = Term-F.Var (WholeName w) place
+plain_form (Term-F.Empty place) = Term-F.Lit [] place
+plain_form (Term-F.Alt a b place) = Term-F.Variants (a ∷ b ∷ []) place
+plain_form (Term-F.Tuple es place) = Term-F.Fields (tuple_locals 0 es) place
+plain_form d = d
+
+unfoldable pub form : Term → Layer
+form e = plain_form (out-Term e)
 
 -- typed terms, by their layers
 abbrev pub made : Lin-F.LinTerm-F LinTerm → LinTerm
