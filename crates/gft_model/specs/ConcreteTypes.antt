@@ -26,14 +26,10 @@ field_choices (f ∷ fs) = flat_map (λ x. map (λ rest. (f.0, x) ∷ rest) (fie
 
 -- what a layer's values are, from those of its parts
 abbrev pub values_step : CType-F (List Param) → List Param
-values_step CType-F.Str = []
 values_step (CType-F.Param w cs) = flat_map (λ c. map (con_param c.0) (choices c.1)) cs
 values_step (CType-F.Ints n) = map number_param (upto n)
 values_step (CType-F.Record fs) = map record_param (field_choices fs)
-values_step (CType-F.Table P V) = []
-values_step (CType-F.Fun A B) = []
-values_step CType-F.TypeSort = []
-values_step CType-F.ParamSort = []
+values_step d = []
 
 -- the values of a finite type in order: by constructor, then by arguments from left to right;
 -- records by their labels
@@ -42,14 +38,10 @@ values_of = fold-CType (List Param) values_step
 
 -- whether a layer's type is finite, from whether its parts are
 abbrev pub finite_step : CType-F Bool → Bool
-finite_step CType-F.Str = false
 finite_step (CType-F.Param w cs) = list_all (λ c. list_all (λ b. b) c.1) cs
 finite_step (CType-F.Ints n) = true
 finite_step (CType-F.Record fs) = list_all (λ f. f.1) fs
-finite_step (CType-F.Table P V) = false
-finite_step (CType-F.Fun A B) = false
-finite_step CType-F.TypeSort = false
-finite_step CType-F.ParamSort = false
+finite_step d = false
 
 -- a type that tables may be over: a parameter type, Ints n, or a record type of such types
 abbrev pub is_finite : CType → Bool
@@ -66,14 +58,10 @@ product_of (n ∷ ns) = n * product_of ns
 
 -- how many values a layer's type has, from how many its parts have
 abbrev pub count_step : CType-F ℕ → ℕ
-count_step CType-F.Str = 0
 count_step (CType-F.Param w cs) = sum_of (map (λ c. product_of c.1) cs)
 count_step (CType-F.Ints n) = n + 1
 count_step (CType-F.Record fs) = product_of (map (λ f. f.1) fs)
-count_step (CType-F.Table P V) = 0
-count_step (CType-F.Fun A B) = 0
-count_step CType-F.TypeSort = 0
-count_step CType-F.ParamSort = 0
+count_step d = 0
 
 -- how many values a finite type has
 abbrev pub count_of : CType → ℕ
@@ -113,9 +101,7 @@ leaves_step (CType-F.Param w cs) = one_leaf (parameter_leaf (layer_values (CType
 leaves_step (CType-F.Ints n) = one_leaf (parameter_leaf (layer_values (CType-F.Ints n)))
 leaves_step (CType-F.Record fs) = flat_map (λ f. map (below (Label f.0)) f.1.leaves) fs
 leaves_step (CType-F.Table P V) = flat_map (λ v. map (below (Cell v)) V.leaves) P.values
-leaves_step (CType-F.Fun A B) = []
-leaves_step CType-F.TypeSort = []
-leaves_step CType-F.ParamSort = []
+leaves_step d = []
 
 abbrev pub parts_of : CType → Parts
 parts_of = fold-CType Parts (λ d. record { values = layer_values d; leaves = leaves_step d })

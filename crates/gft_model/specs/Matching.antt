@@ -97,8 +97,7 @@ on_text f (closed ss) = hidden
 -- only parameters are told apart
 abbrev pub on_parameter : (Param-F Param → Match) → Subject → Match
 on_parameter f (parameter v) = f (out-Param v)
-on_parameter f (text cs) = differs
-on_parameter f (closed ss) = differs
+on_parameter f s = differs
 
 -- the text in two parts of which the left has n characters or as few more as let both match
 abbrev pub shortest_split : (List ℕ → Match) → (List ℕ → Match) → List ℕ → List ℕ → Match
@@ -107,8 +106,7 @@ shortest_split p q left (c ∷ cs) = or_else (and_also (p left) (q (c ∷ cs))) 
 
 abbrev pub is_matched : Match → Bool
 is_matched (matched bs) = true
-is_matched differs = false
-is_matched hidden = false
+is_matched m = false
 
 -- whether the text is cut into parts that p matches: the first part begins with what is held
 abbrev pub repeats : (List ℕ → Match) → List ℕ → List ℕ → Bool
@@ -119,9 +117,8 @@ repeats p held (c ∷ cs) =
 -- each pattern on each value, in order
 abbrev pub match_all : List (Subject → Match) → List Param → Match
 match_all [] [] = matched []
-match_all [] (v ∷ vs) = differs
-match_all (p ∷ ps) [] = differs
 match_all (p ∷ ps) (v ∷ vs) = and_also (p (parameter v)) (match_all ps vs)
+match_all ps vs = differs
 
 -- the pattern on the field of each label
 abbrev pub match_labels : (Subject → Match) → List (List ℕ × Param) → List (List ℕ) → Match
@@ -140,19 +137,16 @@ match_tuple n (p ∷ ps) fs = and_also (match_labels p fs (tuple_label n ∷ [])
 -- a constructor with arguments
 abbrev pub match_constructor : Whole → List (Subject → Match) → Param-F Param → Match
 match_constructor w ps (Param-F.Con c vs) = if same_whole w c then match_all ps vs else differs
-match_constructor w ps (Param-F.Ints n) = differs
-match_constructor w ps (Param-F.Record fs) = differs
+match_constructor w ps v = differs
 
 abbrev pub match_number : ℕ → Param-F Param → Match
-match_number n (Param-F.Con c vs) = differs
 match_number n (Param-F.Ints m) = matched_if (n == m)
-match_number n (Param-F.Record fs) = differs
+match_number n v = differs
 
 -- a record by the labels that are named
 abbrev pub match_record : (List (List ℕ × Param) → Match) → Param-F Param → Match
-match_record f (Param-F.Con c vs) = differs
-match_record f (Param-F.Ints m) = differs
 match_record f (Param-F.Record fs) = f fs
+match_record f v = differs
 
 -- a whole name is a constructor; one that is still as written is a variable
 abbrev pub match_name : Reference → List (Subject → Match) → Subject → Match

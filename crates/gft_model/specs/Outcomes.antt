@@ -109,21 +109,15 @@ just (Some v) = one (plain v)
 -- what each form of value gives where a string, a record, a table is wanted
 abbrev pub on_string : (List Sym → Results) → Value-F Value → Results
 on_string f (Value-F.Str ss) = f ss
-on_string f (Value-F.Param v) = none
-on_string f (Value-F.Record fs) = none
-on_string f (Value-F.Table es) = none
+on_string f d = none
 
 abbrev pub on_record : (List (List ℕ × Value) → Results) → Value-F Value → Results
-on_record f (Value-F.Str ss) = none
-on_record f (Value-F.Param v) = none
 on_record f (Value-F.Record fs) = f fs
-on_record f (Value-F.Table es) = none
+on_record f d = none
 
 abbrev pub on_table : (List (Param × Value) → Results) → Value-F Value → Results
-on_table f (Value-F.Str ss) = none
-on_table f (Value-F.Param v) = none
-on_table f (Value-F.Record fs) = none
 on_table f (Value-F.Table es) = f es
+on_table f d = none
 
 abbrev pub with_string : Results → (List Sym → Results) → Results
 with_string r next = with_value r (λ v. on_string next (out-Value v))
@@ -150,9 +144,8 @@ predef_string p place n ss =
     ]
 
 abbrev pub on_number : (ℕ → Results) → Param-F Param → Results
-on_number f (Param-F.Con w vs) = none
 on_number f (Param-F.Ints n) = f n
-on_number f (Param-F.Record fs) = none
+on_number f v = none
 
 -- the first branch that matches; where none does, a text is stuck
 abbrev pub no_branch : Place → Subject → Results
@@ -173,8 +166,7 @@ first_match place s (b ∷ bs) env =
 -- the item at the subject's number among the values of the type
 abbrev pub item_at : Subject → List (Param × (Environment → Results)) → Environment → Results
 item_at (parameter v) items env = elim (entry_at v items) [ None ↦ none | Some t ↦ t env ]
-item_at (Subject.text cs) items env = none
-item_at (closed ss) items env = none
+item_at s items env = none
 
 abbrev pub branch_at : Place → Subject → Branches (Environment → Results) → Environment → Results
 branch_at place s (Matched bs) env = first_match place s bs env
@@ -202,13 +194,7 @@ subject_of (Value-F.Table es) v next = none
 -- result to what the supertype gives
 abbrev pub cut_function : (CType → Meaning → Results) → CType-F CType → (Value → Results) → Results
 cut_function after (CType-F.Fun A B) f = one (function (λ v. and_then (f (cut_value A v)) (after B)))
-cut_function after CType-F.Str f = none
-cut_function after (CType-F.Param w cs) f = none
-cut_function after (CType-F.Ints n) f = none
-cut_function after (CType-F.Record gs) f = none
-cut_function after (CType-F.Table P V) f = none
-cut_function after CType-F.TypeSort f = none
-cut_function after CType-F.ParamSort f = none
+cut_function after d f = none
 
 -- how values, and what is of a given subtype, are cut to a type
 pub record Cut : Type 0 where
@@ -220,13 +206,7 @@ cut_plain f m = elim m [ plain v ↦ one (plain (f v)) | function g ↦ none ]
 
 abbrev pub cut_meaning : CType-F Cut → (Value → Value) → CType → Meaning → Results
 cut_meaning (CType-F.Fun A B) f S m = elim m [ plain v ↦ none | function g ↦ cut_function B.meaning (out-CType S) g ]
-cut_meaning CType-F.Str f S m = cut_plain f m
-cut_meaning (CType-F.Param w cs) f S m = cut_plain f m
-cut_meaning (CType-F.Ints n) f S m = cut_plain f m
-cut_meaning (CType-F.Record gs) f S m = cut_plain f m
-cut_meaning (CType-F.Table P V) f S m = cut_plain f m
-cut_meaning CType-F.TypeSort f S m = cut_plain f m
-cut_meaning CType-F.ParamSort f S m = cut_plain f m
+cut_meaning d f S m = cut_plain f m
 
 abbrev pub cut_layer : CType-F Cut → Cut
 cut_layer d =

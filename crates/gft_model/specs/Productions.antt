@@ -34,9 +34,7 @@ case_values_step (CType-F.Param w cs) = map param_value (layer_params (CType-F.P
 case_values_step (CType-F.Ints n) = map param_value (layer_params (CType-F.Ints n))
 case_values_step (CType-F.Record fs) = map record_value (field_choices (map (λ f. (f.0, f.1.values)) fs))
 case_values_step (CType-F.Table P V) = map (λ vs. table_value (zip P.params vs)) (choices (map (λ v. V.values) P.params))
-case_values_step (CType-F.Fun A B) = record_value [] ∷ []
-case_values_step CType-F.TypeSort = record_value [] ∷ []
-case_values_step CType-F.ParamSort = record_value [] ∷ []
+case_values_step d = record_value [] ∷ []
 
 -- the value of argument i in each case of its type, in order: the parameters of the case, and string
 -- cell l as its closed part l

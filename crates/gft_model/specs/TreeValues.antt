@@ -98,9 +98,7 @@ default_value_step (CType-F.Param w cs) =
 default_value_step (CType-F.Ints n) = param_value (number_param 0)
 default_value_step (CType-F.Record fs) = record_value (map (λ f. (f.0, f.1.value)) fs)
 default_value_step (CType-F.Table P V) = table_value (map (λ v. (v, V.value)) P.values)
-default_value_step (CType-F.Fun A B) = record_value []
-default_value_step CType-F.TypeSort = record_value []
-default_value_step CType-F.ParamSort = record_value []
+default_value_step d = record_value []
 
 abbrev pub default_step : CType-F Default → Default
 default_step d =
