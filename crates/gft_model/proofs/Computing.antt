@@ -5,7 +5,7 @@ use Rattle.gft_core.specs.declared.tree.Tree.TheOpen.{Tree-F}
 use Rattle.gft_core.specs.declared.tree.Tree.TheFolds.{fold-roll-Tree, map-Tree}
 use Rattle.gft_syntax.specs.declared.ctype.CType.{CType, roll-CType}
 use Rattle.gft_syntax.specs.declared.ctype.CType.TheOpen.{CType-F}
-use Rattle.gft_syntax.specs.declared.ctype.CType.TheFolds.{fold-CType, fold-roll-CType, map-CType}
+use Rattle.gft_syntax.specs.declared.ctype.CType.TheFolds.{fold-roll-CType, map-CType, para-CType, para-roll-CType}
 use Rattle.gft_syntax.specs.declared.flat.Flat.{Flat}
 use Rattle.gft_syntax.specs.declared.linear.LinTerm.{LinTerm, roll-LinTerm}
 use Rattle.gft_syntax.specs.declared.linear.LinTerm.TheOpen.{LinTerm-F}
@@ -22,19 +22,25 @@ use Rattle.gft_syntax.specs.declared.value.Param.TheFolds.{fold-roll-Param, map-
 use Rattle.gft_syntax.specs.declared.value.Value.{Value, roll-Value}
 use Rattle.gft_syntax.specs.declared.value.Value.TheOpen.{Value-F}
 use Rattle.gft_syntax.specs.declared.value.Value.TheFolds.{fold-Value, fold-roll-Value, map-Value}
-use Rattle.gft_model.specs.ConcreteTypes.{Parts, parts_of, layer_values, leaves_step}
+use Rattle.gft_model.specs.ConcreteTypes.{LeafAt, cells_of_type, leaves_step}
 use Rattle.gft_model.specs.Matching.{Subject, Match, match_of, match_step}
 use Rattle.gft_model.specs.Outcomes.{Results, Environment, results_of, step}
 use Rattle.gft_core.specs.declared.symbol.Sym.{Sym}
-use Rattle.gft_model.specs.Productions.{CaseValues, layer_params, case_values_step, case_of, parameters_step}
+use Rattle.gft_syntax.specs.declared.pattern.Pattern.TheViews.{out-roll-Pattern}
+use Rattle.gft_model.specs.PatternTyping.{pattern_form, plain_pattern}
+use Rattle.gft_model.specs.Productions.{case_values_step, case_of, parameters_step}
 use Rattle.gft_model.specs.TreeStrings.{first_string, first_string_step}
-use Rattle.gft_model.specs.TreeValues.{Default, default_step, default_value_step, string_leaves, leaves_of_step, Numbered, number_step, AtPosition, value_of_layer, bracketed_values}
+use Rattle.gft_model.specs.TreeValues.{default_value, default_step, string_leaves, leaves_of_step, Numbered, number_step, AtPosition, value_of_layer, bracketed_values}
 use Rattle.gft_model.specs.TypeForms.{form, plain_form}
 use Rattle.gft_model.specs.Values.{same_param, same_step, cut_value, cut_step}
 
 pub form-roll : (d : Layer) → form (roll-Term d) ≡ plain_form d
 unfolding form
 form-roll d = ap plain_form (out-roll-Term d)
+
+pub pattern_form-roll : (d : Pattern-F Pattern) → pattern_form (roll-Pattern d) ≡ plain_pattern d
+unfolding pattern_form
+pattern_form-roll d = ap plain_pattern (out-roll-Pattern d)
 
 pub results-roll : (opers : ℕ → Results) (d : LinTerm-F LinTerm) (env : Environment) →
     results_of opers (roll-LinTerm d) env ≡ step opers (map-LinTerm LinTerm (Environment → Results) (results_of opers) d) env
@@ -52,13 +58,9 @@ pub cut-roll : (d : CType-F CType) (v : Value) →
     cut_value (roll-CType d) v ≡ cut_step (map-CType CType (Value → Value) cut_value d) v
 cut-roll d v = ap (λ (f : Value → Value). f v) (fold-roll-CType (Value → Value) cut_step d)
 
-pub leaves-roll : (d : CType-F CType) →
-    (parts_of (roll-CType d)).leaves ≡ leaves_step (map-CType CType Parts parts_of d)
-leaves-roll d = ap (λ (p : Parts). p.leaves) (fold-roll-CType Parts (λ d. record { values = layer_values d; leaves = leaves_step d }) d)
-
-pub part_values-roll : (d : CType-F CType) →
-    (parts_of (roll-CType d)).values ≡ layer_values (map-CType CType Parts parts_of d)
-part_values-roll d = ap (λ (p : Parts). p.values) (fold-roll-CType Parts (λ d. record { values = layer_values d; leaves = leaves_step d }) d)
+pub cells-roll : (d : CType-F CType) →
+    cells_of_type (roll-CType d) ≡ leaves_step (map-CType CType (CType × List LeafAt) (λ T. (T, cells_of_type T)) d)
+cells-roll d = para-roll-CType (List LeafAt) leaves_step d
 
 pub tree-roll : (flat : Flat) (lang : List ℕ) (d : Tree-F Tree) (p C : List ℕ) →
     bracketed_values flat lang (roll-Tree d) p C ≡ value_of_layer flat lang (map-Tree Tree AtPosition (bracketed_values flat lang) d) p C
@@ -85,15 +87,12 @@ pub string_leaves-roll : (d : Value-F Value) →
 string_leaves-roll d = fold-roll-Value (List (List Sym)) leaves_of_step d
 
 pub default-roll : (d : CType-F CType) →
-    (fold-CType Default default_step (roll-CType d)).value ≡ default_value_step (map-CType CType Default (fold-CType Default default_step) d)
-default-roll d = ap (λ (c : Default). c.value) (fold-roll-CType Default default_step d)
-
-abbrev cases_step : CType-F CaseValues → CaseValues
-cases_step d = record { params = layer_params d; values = case_values_step d }
+    default_value (roll-CType d) ≡ default_step (map-CType CType (CType × Value) (λ T. (T, default_value T)) d)
+default-roll d = para-roll-CType Value default_step d
 
 pub case_values-roll : (d : CType-F CType) →
-    (fold-CType CaseValues (λ d. record { params = layer_params d; values = case_values_step d }) (roll-CType d)).values ≡ case_values_step (map-CType CType CaseValues (fold-CType CaseValues cases_step) d)
-case_values-roll d = ap (λ (c : CaseValues). c.values) (fold-roll-CType CaseValues cases_step d)
+    para-CType (List Value) case_values_step (roll-CType d) ≡ case_values_step (map-CType CType (CType × List Value) (λ T. (T, para-CType (List Value) case_values_step T)) d)
+case_values-roll d = para-roll-CType (List Value) case_values_step d
 
 pub case_of-roll : (d : Value-F Value) → case_of (roll-Value d) ≡ parameters_step (map-Value Value (List Param) case_of d)
 case_of-roll d = fold-roll-Value (List Param) parameters_step d

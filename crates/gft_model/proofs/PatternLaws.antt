@@ -1,12 +1,12 @@
 -- A pattern fits a type in one way: its variables and their types are determined.
-use Rattle.std.proofs.Common.{◌≡◌, ap, refl, ℕ, suc, List, ◌∷◌}
+use Rattle.std.proofs.Common.{◌≡◌, ap, refl, ℕ, List, ◌∷◌}
 use Rattle.gft_syntax.specs.declared.ctype.CType.{CType}
-use Rattle.gft_syntax.specs.declared.pattern.Pattern.{Pattern, out-Pattern}
+use Rattle.gft_syntax.specs.declared.pattern.Pattern.{Pattern}
 use Rattle.gft_syntax.specs.declared.pattern.PatternField.{PatternField}
 use Rattle.gft_syntax.specs.declared.pattern.Pattern.TheOpen as P
 use Rattle.gft_syntax.specs.declared.reference.Reference.TheVariants.{Written, Whole as WholeName}
 use Rattle.gft_syntax.specs.declared.reference.Whole.{Whole}
-use Rattle.gft_model.specs.PatternTyping.{Scope, Constructs, PatternFits, either, sequence, constructor_with, repeated, as_well, anything, character, variable, constructor_alone, literal, number, record_of, tuple_of, EachFits, no_more, more, FieldsFit, no_field, field_done, field, ItemsFit, no_item, item}
+use Rattle.gft_model.specs.PatternTyping.{pattern_form, Scope, Constructs, PatternFits, either, sequence, constructor_with, repeated, as_well, anything, character, variable, literal, number, record_of, EachFits, no_more, more, FieldsFit, no_field, field_done, field}
 
 -- the form of a pattern that fits
 abbrev pub form_of : {T : CType} {r : Pattern} {Γ : Scope} → PatternFits T r Γ → P.Pattern-F Pattern
@@ -18,13 +18,11 @@ form_of (as_well {p = p} {x = x} {place = place} a0 a1) = P.As x p place
 form_of (anything {place = place} a0) = P.Any place
 form_of (character {place = place} a0) = P.One place
 form_of (variable {x = x} {place = place} a0) = P.Name (Written x) place
-form_of (constructor_alone {c = c} {place = place} a0 a1) = P.Name (WholeName c) place
 form_of (literal {t = t} {place = place} a0) = P.Text t place
 form_of (number {n = n} {place = place} a0 a1) = P.Num n place
 form_of (record_of {fs = fs} {place = place} a0 a1 a2) = P.Fields fs place
-form_of (tuple_of {ps = ps} {place = place} a0 a1 a2) = P.Tuple ps place
 
-pub form_is : {T : CType} {r : Pattern} {Γ : Scope} (d : PatternFits T r Γ) → out-Pattern r ≡ form_of d
+pub form_is : {T : CType} {r : Pattern} {Γ : Scope} (d : PatternFits T r Γ) → pattern_form r ≡ form_of d
 form_is (either a0 a1 a2 a3) = a0
 form_is (sequence a0 a1 a2) = a0
 form_is (constructor_with a0 a1 a2) = a0
@@ -33,11 +31,9 @@ form_is (as_well a0 a1) = a0
 form_is (anything a0) = a0
 form_is (character a0) = a0
 form_is (variable a0) = a0
-form_is (constructor_alone a0 a1) = a0
 form_is (literal a0) = a0
 form_is (number a0 a1) = a0
 form_is (record_of a0 a1 a2) = a0
-form_is (tuple_of a0 a1 a2) = a0
 
 -- the types of a constructor's arguments are determined
 pub same-arguments : {c d : Whole} {Ts Us : List CType} {T U : CType} → Constructs c Ts T → Constructs d Us U → T ≡ U → c ≡ d → Ts ≡ Us
@@ -69,16 +65,12 @@ mutual
   fits-once (character a0) d e f = let k = form_is d in cc
   fits-once (variable a0) (variable b0) e f = cc
   fits-once (variable a0) d e f = let k = form_is d in cc
-  fits-once (constructor_alone a0 a1) (constructor_alone b0 b1) e f = refl
-  fits-once (constructor_alone a0 a1) d e f = let k = form_is d in cc
   fits-once (literal a0) (literal b0) e f = refl
   fits-once (literal a0) d e f = let k = form_is d in cc
   fits-once (number a0 a1) (number b0 b1) e f = refl
   fits-once (number a0 a1) d e f = let k = form_is d in cc
   fits-once (record_of a0 a1 a2) (record_of b0 b1 b2) e f = fields-once a2 b2 (cc) (cc)
   fits-once (record_of a0 a1 a2) d e f = let k = form_is d in cc
-  fits-once (tuple_of a0 a1 a2) (tuple_of b0 b1 b2) e f = items-once a2 b2 (cc) refl (cc)
-  fits-once (tuple_of a0 a1 a2) d e f = let k = form_is d in cc
 
   each-once : {Ts Us : List CType} {ps qs : List Pattern} {Γ Δ : Scope} → EachFits Ts ps Γ → EachFits Us qs Δ → Ts ≡ Us → ps ≡ qs → Γ ≡ Δ
   each-once no_more no_more e f = refl
@@ -97,9 +89,3 @@ mutual
   fields-once (field a0 a1 a2) (field_done b0) e f = let h = heads f in cc
   fields-once (field a0 a1 a2) (field b0 b1 b2) e f = let h = heads f in
       let i = fits-once a1 b1 (cc) h.1 in let j = fields-once a2 b2 e (same-fields h) in cc
-
-  items-once : {gs hs : List (List ℕ × CType)} {m n : ℕ} {ps qs : List Pattern} {Γ Δ : Scope} → ItemsFit gs m ps Γ → ItemsFit hs n qs Δ → gs ≡ hs → m ≡ n → ps ≡ qs → Γ ≡ Δ
-  items-once no_item no_item e f g = refl
-  items-once no_item (item b0 b1 b2) e f g = cc
-  items-once (item a0 a1 a2) no_item e f g = cc
-  items-once (item a0 a1 a2) (item b0 b1 b2) e f g = let i = fits-once a1 b1 (cc) (cc) in let j = items-once a2 b2 e (ap suc f) (cc) in cc

@@ -5,6 +5,7 @@ use Rattle.gft_core.specs.declared.symbol.Sym.{Sym}
 use Rattle.gft_core.specs.declared.symbol.Sym.TheVariants.{Tok, Arg}
 use Rattle.gft_syntax.specs.declared.ctype.CType.{CType, roll-CType}
 use Rattle.gft_syntax.specs.declared.ctype.CType.TheOpen as C
+use Rattle.gft_syntax.specs.declared.ctype.CType.TheFolds.{fold-roll-CType}
 use Rattle.gft_syntax.specs.declared.flat.Flat.{Flat}
 use Rattle.gft_syntax.specs.declared.judgement.Judgement.TheVariants as J
 use Rattle.gft_syntax.specs.declared.linear.Branches.TheVariants.{Matched}

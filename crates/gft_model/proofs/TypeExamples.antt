@@ -9,7 +9,7 @@ use Rattle.gft_syntax.specs.declared.ctype.CType.TheViews.{out-roll-CType}
 use Rattle.gft_syntax.specs.declared.value.Param.{Param}
 use Rattle.gft_syntax.specs.declared.value.PathStep.TheVariants.{Label, Cell}
 use Rattle.gft_model.specs.ConcreteTypes.{values_of, cases_of, string_cells, is_finite, field_of, IsSubtype, equal, fewer_labels, tables, numbers, functions, HasLabels, no_label, label}
-use Rattle.gft_model.proofs.Computing.{leaves-roll, part_values-roll}
+use Rattle.gft_model.proofs.Computing.{cells-roll}
 use Rattle.gft_model.specs.ValueForms.{con_param, number_param, record_param}
 
 -- param Number = Sg | Pl, of a module M
@@ -44,19 +44,19 @@ values_in_order = simp fold-roll-CType
 -- its cases as a linearization type: one value for each of the two cells
 pub cases_in_order : cases_of pairs
     ≡ (sg ∷ number_param 0 ∷ []) ∷ (sg ∷ number_param 1 ∷ []) ∷ (sg ∷ number_param 2 ∷ []) ∷ (pl ∷ number_param 0 ∷ []) ∷ (pl ∷ number_param 1 ∷ []) ∷ (pl ∷ number_param 2 ∷ []) ∷ []
-cases_in_order = simp leaves-roll
+cases_in_order = simp cells-roll
 
 -- {s : Number => Str}: two string cells, Sg before Pl
 pub cells_in_order : string_cells (roll-CType (C.Record ((codes "s", roll-CType (C.Table number str)) ∷ [])))
     ≡ (Label (codes "s") ∷ Cell sg ∷ []) ∷ (Label (codes "s") ∷ Cell pl ∷ []) ∷ []
-cells_in_order = simp (leaves-roll, part_values-roll)
+cells_in_order = simp (cells-roll, fold-roll-CType)
 
 -- Str is not finite, and has one case
 pub strings_are_many : is_finite str ≡ false
 strings_are_many = simp fold-roll-CType
 
 pub strings_have_one_case : cases_of str ≡ [] ∷ []
-strings_have_one_case = simp leaves-roll
+strings_have_one_case = simp cells-roll
 
 -- Number => Str has no value among parameters
 pub tables_are_none : values_of (roll-CType (C.Table number str)) ≡ []

@@ -12,9 +12,8 @@ use Rattle.gft_syntax.specs.declared.linear.Branches.TheVariants.{Matched}
 use Rattle.gft_syntax.specs.declared.linear.LinTerm.{LinTerm}
 use Rattle.gft_syntax.specs.declared.linear.LinTerm.TheOpen as L
 use Rattle.gft_syntax.specs.declared.linear.Predef.TheVariants.{Dp}
-use Rattle.gft_syntax.specs.declared.pattern.Pattern.{Pattern, out-Pattern, roll-Pattern}
+use Rattle.gft_syntax.specs.declared.pattern.Pattern.{Pattern, roll-Pattern}
 use Rattle.gft_syntax.specs.declared.pattern.Pattern.TheOpen as P
-use Rattle.gft_syntax.specs.declared.pattern.Pattern.TheViews.{out-roll-Pattern}
 use Rattle.gft_syntax.specs.declared.value.Param.TheViews.{out-roll-Param}
 use Rattle.gft_syntax.specs.declared.reference.Reference.TheVariants.{Written, Whole as WholeName}
 use Rattle.gft_syntax.specs.declared.reference.Whole.{Whole}
@@ -27,9 +26,9 @@ use Rattle.gft_model.specs.ConcreteTypes.{IsSubtype, fewer_labels, numbers, labe
 use Rattle.gft_model.specs.ConcreteTyping.{IsData, IsType, Finds, Checks, Covers, patterns, passes, IsHead, Spine, Takes, takes, takes_none, Suits, Chosen, overloaded, Stands, an_overload, text_type, function_from, next_found, none_found, value_done, found, append, literal, number, same, cut, predef, application, applied_to, at_head, next_argument, no_argument_left, record_given, value_given, value_found, no_field, branches, branch, no_branch}
 use Rattle.gft_model.specs.Items.{Item, alternative}
 use Rattle.gft_model.specs.Matching.{match_of, is_matched, parameter}
-use Rattle.gft_model.specs.PatternTyping.{Scope, PatternFits, Constructs, arguments_of, sequence, variable, literal as text_literal, constructor_alone}
+use Rattle.gft_model.specs.PatternTyping.{pattern_form, no_more, Scope, PatternFits, Constructs, arguments_of, sequence, variable, literal as text_literal, constructor_with}
 use Rattle.gft_model.specs.TypeForms.{form, str_type, number_type, table_type, function_type, predef_type, predef_term, greatest, made}
-use Rattle.gft_model.proofs.Computing.{form-roll, match-roll}
+use Rattle.gft_model.proofs.Computing.{form-roll, pattern_form-roll, match-roll}
 use Rattle.gft_model.proofs.TypeLaws.{type-once}
 use Rattle.gft_model.proofs.FoundTypes.{find-once, check_form, check_form_is, same-tag, apart-tags}
 use Rattle.gft_model.proofs.PatternLaws.{form_of, form_is}
@@ -61,17 +60,17 @@ text t = roll-Pattern (P.Text t nowhere)
 
 -- x + "y" fits Str and binds x
 pub sequence_fits : PatternFits str_type (roll-Pattern (P.Seq (roll-Pattern (P.Name (Written (codes "x")) nowhere)) (text (codes "y")) nowhere)) ((codes "x", str_type) ∷ [])
-sequence_fits = sequence (out-roll-Pattern _) (variable (out-roll-Pattern _)) (text_literal (out-roll-Pattern _))
+sequence_fits = sequence (pattern_form-roll _) (variable (pattern_form-roll _)) (text_literal (pattern_form-roll _))
 
 -- Pl fits Number and binds nothing
 constructs : (x : List ℕ) → arguments_of (whole x) numbers_of ≡ Some [] → Constructs (whole x) [] number_of
 constructs x k = record { type_name = whole (codes "Number"); constructors = numbers_of; is_type = out-roll-CType _; has = k }
 
 pub plural_fits : PatternFits number_of (name (codes "Pl")) []
-plural_fits = constructor_alone (out-roll-Pattern _) (constructs (codes "Pl") refl)
+plural_fits = constructor_with (pattern_form-roll _) (constructs (codes "Pl") refl) no_more
 
 -- a text fits nothing but Str
-pub texts_only : {T : CType} {r : Pattern} {Γ : Scope} (t : List ℕ) (p : Place) → PatternFits T r Γ → out-Pattern r ≡ P.Text t p → T ≡ str_type
+pub texts_only : {T : CType} {r : Pattern} {Γ : Scope} (t : List ℕ) (p : Place) → PatternFits T r Γ → pattern_form r ≡ P.Text t p → T ≡ str_type
 texts_only t p (text_literal a) h = refl
 texts_only t p d h = let k = form_is d in cc
 
@@ -146,8 +145,8 @@ module _ (items : List Item) where
   pub table_fits : Checks items [] (table_of (branch_of (codes "Sg") (codes "a") ∷ branch_of (codes "Pl") (codes "b") ∷ [])) (table_type number_of str_type)
       (made (L.Table number_of (Matched ((name (codes "Sg"), words (codes "a")) ∷ (name (codes "Pl"), words (codes "b")) ∷ []))))
   table_fits = branches (form-roll _) (out-roll-CType _)
-      (branch (constructor_alone (out-roll-Pattern _) (constructs (codes "Sg") refl)) (literal_fits (codes "a")) str_data
-      (branch (constructor_alone (out-roll-Pattern _) (constructs (codes "Pl") refl)) (literal_fits (codes "b")) str_data no_branch))
+      (branch (constructor_with (pattern_form-roll _) (constructs (codes "Sg") refl) no_more) (literal_fits (codes "a")) str_data
+      (branch (constructor_with (pattern_form-roll _) (constructs (codes "Pl") refl) no_more) (literal_fits (codes "b")) str_data no_branch))
       (simp (fold-roll-CType, match-roll, out-roll-Param))
 
   -- table {Sg => "a"} does not: Pl is left out

@@ -3,7 +3,7 @@ use Rattle.std.specs.Prelude.{◌≡◌, ℕ, zero, suc, ◌+◌, ◌*◌, List,
 use Rattle.std.specs.List.{flat_map, list_all}
 use Rattle.gft_syntax.specs.declared.ctype.CType.{CType, out-CType}
 use Rattle.gft_syntax.specs.declared.ctype.CType.TheOpen.{CType-F}
-use Rattle.gft_syntax.specs.declared.ctype.CType.TheFolds.{fold-CType, map-CType}
+use Rattle.gft_syntax.specs.declared.ctype.CType.TheFolds.{fold-CType, map-CType, para-CType}
 use Rattle.gft_syntax.specs.declared.value.Param.{Param}
 use Rattle.gft_syntax.specs.declared.value.PathStep.{PathStep}
 use Rattle.gft_syntax.specs.declared.value.PathStep.TheVariants.{Label, Cell}
@@ -81,34 +81,26 @@ pub record LeafAt : Type 0 where
 abbrev pub below : PathStep → LeafAt → LeafAt
 below step c = record { steps = step ∷ c.steps; leaf = c.leaf }
 
--- the values of a type beside its leaves
-pub record Parts : Type 0 where
-  pub values : List Param
-  pub leaves : List LeafAt
-
--- the values of a layer's type
-abbrev pub layer_values : CType-F Parts → List Param
-layer_values d = values_step (map-CType Parts (List Param) (λ p. p.values) d)
+-- the values of a layer's type, its parts given beside what is made of them
+abbrev pub layer_values : {A : Type 0} → CType-F (CType × A) → List Param
+layer_values {A} d = values_step (map-CType (CType × A) (List Param) (λ p. values_of p.0) d)
 
 -- one leaf, at the type itself
 abbrev pub one_leaf : Leaf → List LeafAt
 one_leaf leaf = record { steps = []; leaf = leaf } ∷ []
 
--- the leaves of a layer's type, from the parts of its parts
-abbrev pub leaves_step : CType-F Parts → List LeafAt
+-- the leaves of a layer's type, from those of its parts
+abbrev pub leaves_step : CType-F (CType × List LeafAt) → List LeafAt
 leaves_step CType-F.Str = one_leaf string_leaf
 leaves_step (CType-F.Param w cs) = one_leaf (parameter_leaf (layer_values (CType-F.Param w cs)))
-leaves_step (CType-F.Ints n) = one_leaf (parameter_leaf (layer_values (CType-F.Ints n)))
-leaves_step (CType-F.Record fs) = flat_map (λ f. map (below (Label f.0)) f.1.leaves) fs
-leaves_step (CType-F.Table P V) = flat_map (λ v. map (below (Cell v)) V.leaves) P.values
+leaves_step (CType-F.Ints n) = one_leaf (parameter_leaf (map number_param (upto n)))
+leaves_step (CType-F.Record fs) = flat_map (λ f. map (below (Label f.0)) f.1.1) fs
+leaves_step (CType-F.Table P V) = flat_map (λ v. map (below (Cell v)) V.1) (values_of P.0)
 leaves_step d = []
-
-abbrev pub parts_of : CType → Parts
-parts_of = fold-CType Parts (λ d. record { values = layer_values d; leaves = leaves_step d })
 
 -- the cells of a type: its leaves, labels in byte order, tables in the order of their values
 abbrev pub cells_of_type : CType → List LeafAt
-cells_of_type T = (parts_of T).leaves
+cells_of_type = para-CType (List LeafAt) leaves_step
 
 -- the values of a leaf that is a parameter
 abbrev pub leaf_values : LeafAt → List (List Param)

@@ -25,6 +25,11 @@ same_whole a b = bytes_eq a.module b.module && bytes_eq a.name b.name
 abbrev pub tuple_label : ℕ → List ℕ
 tuple_label n = 112 ∷ decimal (suc n)
 
+-- the items of a tuple as fields with the labels p1, p2, ..
+abbrev pub tuple_patterns : {A : Type 0} → ℕ → List A → List (PatternField A)
+tuple_patterns n [] = []
+tuple_patterns n (p ∷ ps) = record { labels = tuple_label n ∷ []; pattern = p } ∷ tuple_patterns (suc n) ps
+
 -- a parameter value, and the value that it is: a record of parameters is a record
 abbrev pub value_step : Param-F (Param × Value) → Param × Value
 value_step (Param-F.Con w vs) = let v = con_param w (map (λ p. p.0) vs) in (v, param_value v)
@@ -130,10 +135,6 @@ abbrev pub match_fields : List (PatternField (Subject → Match)) → List (List
 match_fields [] fs = matched []
 match_fields (f ∷ rest) fs = and_also (match_labels f.pattern fs f.labels) (match_fields rest fs)
 
-abbrev pub match_tuple : ℕ → List (Subject → Match) → List (List ℕ × Param) → Match
-match_tuple n [] fs = matched []
-match_tuple n (p ∷ ps) fs = and_also (match_labels p fs (tuple_label n ∷ [])) (match_tuple (suc n) ps fs)
-
 -- a constructor with arguments
 abbrev pub match_constructor : Whole → List (Subject → Match) → Param-F Param → Match
 match_constructor w ps (Param-F.Con c vs) = if same_whole w c then match_all ps vs else differs
@@ -167,7 +168,7 @@ match_step (Pattern-F.Name r place) s = match_name r [] s
 match_step (Pattern-F.Text t place) s = on_text (λ cs. matched_if (bytes_eq cs (chars t))) s
 match_step (Pattern-F.Num n place) s = on_parameter (match_number n) s
 match_step (Pattern-F.Fields fs place) s = on_parameter (match_record (match_fields fs)) s
-match_step (Pattern-F.Tuple ps place) s = on_parameter (match_record (match_tuple 0 ps)) s
+match_step (Pattern-F.Tuple ps place) s = on_parameter (match_record (match_fields (tuple_patterns 0 ps))) s
 
 -- what a pattern makes of a subject: its variables where it matches
 abbrev pub match_of : Pattern → Subject → Match

@@ -5,7 +5,7 @@ use Rattle.gft_core.specs.declared.place.Place.{Place}
 use Rattle.gft_core.specs.declared.symbol.Sym.{Sym}
 use Rattle.gft_syntax.specs.declared.ctype.CType.{CType, out-CType}
 use Rattle.gft_syntax.specs.declared.ctype.CType.TheOpen.{CType-F}
-use Rattle.gft_syntax.specs.declared.ctype.CType.TheFolds.{fold-CType, map-CType}
+use Rattle.gft_syntax.specs.declared.ctype.CType.TheFolds.{para-CType}
 use Rattle.gft_syntax.specs.declared.linear.Branches.{Branches}
 use Rattle.gft_syntax.specs.declared.linear.Branches.TheVariants.{Matched, Listed}
 use Rattle.gft_syntax.specs.declared.linear.LinTerm.{LinTerm}
@@ -18,7 +18,7 @@ use Rattle.gft_syntax.specs.declared.value.Param.{Param, out-Param}
 use Rattle.gft_syntax.specs.declared.value.Param.TheOpen.{Param-F}
 use Rattle.gft_syntax.specs.declared.value.Value.{Value, out-Value}
 use Rattle.gft_syntax.specs.declared.value.Value.TheOpen.{Value-F}
-use Rattle.gft_model.specs.Values.{param_of, params_of, entry_at, extended, part, glued, cut_step, cut_value}
+use Rattle.gft_model.specs.Values.{param_of, params_of, entry_at, extended, part, glued, cut_value}
 use Rattle.gft_model.specs.ConcreteTypes.{field_of, values_of}
 use Rattle.gft_model.specs.Matching.{Bindings, Match, matched, differs, hidden, Subject, parameter, closed, match_of, string_subject, known_words, words_value}
 use Rattle.gft_model.specs.ValueForms.{con_param, number_param, string_value, param_value, record_value, table_value}
@@ -187,35 +187,29 @@ cell_at v (Listed P ts) env = item_at (parameter v) (zip (values_of P) ts) env
 abbrev pub subject_of : Value-F Value → Value → (Subject → Results) → Results
 subject_of (Value-F.Str ss) v next = next (string_subject ss)
 subject_of (Value-F.Param p) v next = next (parameter p)
-subject_of (Value-F.Record fs) v next = elim (param_of v) [ None ↦ none | Some p ↦ next (parameter p) ]
-subject_of (Value-F.Table es) v next = none
+subject_of d v next = elim (param_of v) [ None ↦ none | Some p ↦ next (parameter p) ]
 
--- a function of type S where its supertype stands: its argument is cut to what S takes, and its
--- result to what the supertype gives
-abbrev pub cut_function : (CType → Meaning → Results) → CType-F CType → (Value → Results) → Results
-cut_function after (CType-F.Fun A B) f = one (function (λ v. and_then (f (cut_value A v)) (after B)))
-cut_function after d f = none
+-- how a function of the given type is made one of a supertype
+abbrev pub Cutting : Type 0
+Cutting = CType → (Value → Results) → Results
 
--- how values, and what is of a given subtype, are cut to a type
-pub record Cut : Type 0 where
-  pub value : Value → Value
-  pub meaning : CType → Meaning → Results
+-- what is of type S, cut to a supertype
+abbrev pub cut_meaning : CType × Cutting → CType → Meaning → Results
+cut_meaning T S (plain v) = one (plain (cut_value T.0 v))
+cut_meaning T S (function f) = T.1 S f
 
-abbrev pub cut_plain : (Value → Value) → Meaning → Results
-cut_plain f m = elim m [ plain v ↦ one (plain (f v)) | function g ↦ none ]
+-- a function: its argument is cut to what its own type takes, and its result to what the supertype gives
+abbrev pub cut_function : CType × Cutting → CType-F CType → (Value → Results) → Results
+cut_function R (CType-F.Fun A B) f = one (function (λ v. and_then (f (cut_value A v)) (cut_meaning R B)))
+cut_function R d f = none
 
-abbrev pub cut_meaning : CType-F Cut → (Value → Value) → CType → Meaning → Results
-cut_meaning (CType-F.Fun A B) f S m = elim m [ plain v ↦ none | function g ↦ cut_function B.meaning (out-CType S) g ]
-cut_meaning d f S m = cut_plain f m
-
-abbrev pub cut_layer : CType-F Cut → Cut
-cut_layer d =
-    let f = cut_step (map-CType Cut (Value → Value) (λ c. c.value) d) in
-    record { value = f; meaning = cut_meaning d f }
+abbrev pub cutting_step : CType-F (CType × Cutting) → Cutting
+cutting_step (CType-F.Fun P R) S f = cut_function R (out-CType S) f
+cutting_step d S f = none
 
 -- what is of type S, cut to its supertype T
 abbrev pub cut_to : CType → CType → Meaning → Results
-cut_to S T = (fold-CType Cut cut_layer T).meaning S
+cut_to S T = cut_meaning (T, para-CType Cutting cutting_step T) S
 
 -- what a layer means, from what its parts mean, where the opers mean what is given
 abbrev pub step : (ℕ → Results) → LinTerm-F (Environment → Results) → Environment → Results

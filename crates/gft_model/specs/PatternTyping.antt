@@ -1,5 +1,5 @@
 -- Which patterns fit a type, and the types of their variables.
-use Rattle.std.specs.Prelude.{◌≡◌, ℕ, suc, List, [], ◌∷◌, ◌++◌, Option, Some, None, if◌then◌else◌}
+use Rattle.std.specs.Prelude.{◌≡◌, ℕ, List, [], ◌∷◌, ◌++◌, Option, Some, None, if◌then◌else◌}
 use Rattle.gft_core.specs.declared.place.Place.{Place}
 use Rattle.gft_syntax.specs.declared.ctype.CType.{CType, out-CType}
 use Rattle.gft_syntax.specs.declared.ctype.CType.TheOpen as CType-F
@@ -9,7 +9,8 @@ use Rattle.gft_syntax.specs.declared.pattern.Pattern.TheOpen.{Or, Seq, Con, Star
 use Rattle.gft_syntax.specs.declared.reference.Whole.{Whole}
 use Rattle.gft_syntax.specs.declared.reference.Reference.TheVariants.{Written, Whole as WholeName}
 use Rattle.gft_model.specs.ConcreteTypes.{field_of, IsSubtype}
-use Rattle.gft_model.specs.Matching.{same_whole, tuple_label}
+use Rattle.gft_syntax.specs.Patterns.{Layer}
+use Rattle.gft_model.specs.Matching.{same_whole, tuple_patterns}
 use Rattle.gft_model.specs.TypeForms.{str_type, number_type}
 
 -- variables with their types, the nearest first
@@ -32,38 +33,43 @@ pub record Constructs (c : Whole) (Ts : List CType) (T : CType) : Type 0 where
   pub is_type : out-CType T ≡ CType-F.Param type_name constructors
   pub has : arguments_of c constructors ≡ Some Ts
 
+-- the form of a pattern without other spellings: a constructor alone is one without arguments, and a
+-- tuple the record of its items
+abbrev pub plain_pattern : Layer → Layer
+plain_pattern (Name (WholeName c) place) = Con None (WholeName c) [] place
+plain_pattern (Tuple ps place) = Fields (tuple_patterns 0 ps) place
+plain_pattern d = d
+
+unfoldable pub pattern_form : Pattern → Layer
+pattern_form p = plain_pattern (out-Pattern p)
+
 mutual
   -- the pattern fits the type and binds the variables
   pub data PatternFits : CType → Pattern → Scope → Type 0 where
     either : {T : CType} {r p q : Pattern} {place : Place} {Γ Δ : Scope} →
-        out-Pattern r ≡ Or p q place → PatternFits T p Γ → PatternFits T q Δ → SameScope Γ Δ →
+        pattern_form r ≡ Or p q place → PatternFits T p Γ → PatternFits T q Δ → SameScope Γ Δ →
         PatternFits T r Γ
-    sequence : {r p q : Pattern} {place : Place} {Γ Δ : Scope} → out-Pattern r ≡ Seq p q place →
+    sequence : {r p q : Pattern} {place : Place} {Γ Δ : Scope} → pattern_form r ≡ Seq p q place →
         PatternFits str_type p Γ → PatternFits str_type q Δ → PatternFits str_type r (Γ ++ Δ)
     constructor_with : {T : CType} {r : Pattern} {m : Option (List ℕ)} {c : Whole} {ps : List Pattern} {place : Place} {Ts : List CType} {Γ : Scope} →
-        out-Pattern r ≡ Con m (WholeName c) ps place → Constructs c Ts T → EachFits Ts ps Γ →
+        pattern_form r ≡ Con m (WholeName c) ps place → Constructs c Ts T → EachFits Ts ps Γ →
         PatternFits T r Γ
-    repeated : {r p : Pattern} {place : Place} → out-Pattern r ≡ Star p place →
+    repeated : {r p : Pattern} {place : Place} → pattern_form r ≡ Star p place →
         PatternFits str_type p [] → PatternFits str_type r []
     as_well : {T : CType} {r p : Pattern} {x : List ℕ} {place : Place} {Γ : Scope} →
-        out-Pattern r ≡ As x p place → PatternFits T p Γ → PatternFits T r ((x, T) ∷ Γ)
-    anything : {T : CType} {r : Pattern} {place : Place} → out-Pattern r ≡ Any place →
+        pattern_form r ≡ As x p place → PatternFits T p Γ → PatternFits T r ((x, T) ∷ Γ)
+    anything : {T : CType} {r : Pattern} {place : Place} → pattern_form r ≡ Any place →
         PatternFits T r []
-    character : {r : Pattern} {place : Place} → out-Pattern r ≡ One place →
+    character : {r : Pattern} {place : Place} → pattern_form r ≡ One place →
         PatternFits str_type r []
     variable : {T : CType} {r : Pattern} {x : List ℕ} {place : Place} →
-        out-Pattern r ≡ Name (Written x) place → PatternFits T r ((x, T) ∷ [])
-    constructor_alone : {T : CType} {r : Pattern} {c : Whole} {place : Place} →
-        out-Pattern r ≡ Name (WholeName c) place → Constructs c [] T → PatternFits T r []
-    literal : {r : Pattern} {t : List ℕ} {place : Place} → out-Pattern r ≡ Text t place →
+        pattern_form r ≡ Name (Written x) place → PatternFits T r ((x, T) ∷ [])
+    literal : {r : Pattern} {t : List ℕ} {place : Place} → pattern_form r ≡ Text t place →
         PatternFits str_type r []
-    number : {T : CType} {r : Pattern} {n : ℕ} {place : Place} → out-Pattern r ≡ Num n place →
+    number : {T : CType} {r : Pattern} {n : ℕ} {place : Place} → pattern_form r ≡ Num n place →
         IsSubtype (number_type n) T → PatternFits T r []
     record_of : {T : CType} {r : Pattern} {fs : List (PatternField Pattern)} {gs : List (List ℕ × CType)} {place : Place} {Γ : Scope} →
-        out-Pattern r ≡ Fields fs place → out-CType T ≡ CType-F.Record gs → FieldsFit gs fs Γ →
-        PatternFits T r Γ
-    tuple_of : {T : CType} {r : Pattern} {ps : List Pattern} {gs : List (List ℕ × CType)} {place : Place} {Γ : Scope} →
-        out-Pattern r ≡ Tuple ps place → out-CType T ≡ CType-F.Record gs → ItemsFit gs 0 ps Γ →
+        pattern_form r ≡ Fields fs place → out-CType T ≡ CType-F.Record gs → FieldsFit gs fs Γ →
         PatternFits T r Γ
 
   -- as many patterns as types, each fits its own
@@ -81,10 +87,3 @@ mutual
         field_of l gs ≡ Some T → PatternFits T p Γ →
         FieldsFit gs (record { labels = ls; pattern = p } ∷ fs) Δ →
         FieldsFit gs (record { labels = l ∷ ls; pattern = p } ∷ fs) (Γ ++ Δ)
-
-  -- the items of a tuple fit the types at p1, p2, ..
-  pub data ItemsFit : List (List ℕ × CType) → ℕ → List Pattern → Scope → Type 0 where
-    no_item : {gs : List (List ℕ × CType)} {n : ℕ} → ItemsFit gs n [] []
-    item : {gs : List (List ℕ × CType)} {n : ℕ} {T : CType} {p : Pattern} {ps : List Pattern} {Γ Δ : Scope} →
-        field_of (tuple_label n) gs ≡ Some T → PatternFits T p Γ → ItemsFit gs (suc n) ps Δ →
-        ItemsFit gs n (p ∷ ps) (Γ ++ Δ)

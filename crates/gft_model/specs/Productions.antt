@@ -5,42 +5,34 @@ use Rattle.gft_core.specs.declared.symbol.Sym.{Sym}
 use Rattle.gft_core.specs.declared.symbol.Sym.TheVariants.{Arg}
 use Rattle.gft_syntax.specs.declared.ctype.CType.{CType}
 use Rattle.gft_syntax.specs.declared.ctype.CType.TheOpen.{CType-F}
-use Rattle.gft_syntax.specs.declared.ctype.CType.TheFolds.{fold-CType, map-CType}
+use Rattle.gft_syntax.specs.declared.ctype.CType.TheFolds.{para-CType}
 use Rattle.gft_syntax.specs.declared.flat.Flat.{Flat}
 use Rattle.gft_syntax.specs.declared.value.Param.{Param}
 use Rattle.gft_syntax.specs.declared.value.Value.{Value}
 use Rattle.gft_syntax.specs.declared.value.Value.TheOpen.{Value-F}
 use Rattle.gft_syntax.specs.declared.value.Value.TheFolds.{fold-Value}
-use Rattle.gft_model.specs.ConcreteTypes.{choices, field_choices, values_step}
+use Rattle.gft_model.specs.ConcreteTypes.{upto, choices, field_choices, values_of, layer_values}
 use Rattle.gft_model.specs.JudgementTyping.{signature_in}
 use Rattle.gft_model.specs.Languages.{typed_at, is_lin, lin_type, outcomes_on}
 use Rattle.gft_model.specs.Outcomes.{Outcome, gives, stuck_at, outcomes}
 use Rattle.gft_model.specs.TreeStrings.{string_outcomes}
 use Rattle.gft_model.specs.TreeValues.{closed_parts, string_leaves, hole_outcomes}
-use Rattle.gft_model.specs.ValueForms.{string_value, param_value, record_value, table_value}
+use Rattle.gft_model.specs.ValueForms.{number_param, string_value, param_value, record_value, table_value}
 
--- the values of a type as a parameter, and its values with a closed part at each string leaf
-pub record CaseValues : Type 0 where
-  pub params : List Param
-  pub values : List Value
-
--- the parameters of a layer's type
-abbrev pub layer_params : CType-F CaseValues → List Param
-layer_params d = values_step (map-CType CaseValues (List Param) (λ c. c.params) d)
-
-abbrev pub case_values_step : CType-F CaseValues → List Value
+-- the values of a type with a closed part at each string leaf, one for each case, in order
+abbrev pub case_values_step : CType-F (CType × List Value) → List Value
 case_values_step CType-F.Str = string_value (Arg 0 0 ∷ []) ∷ []
-case_values_step (CType-F.Param w cs) = map param_value (layer_params (CType-F.Param w cs))
-case_values_step (CType-F.Ints n) = map param_value (layer_params (CType-F.Ints n))
-case_values_step (CType-F.Record fs) = map record_value (field_choices (map (λ f. (f.0, f.1.values)) fs))
-case_values_step (CType-F.Table P V) = map (λ vs. table_value (zip P.params vs)) (choices (map (λ v. V.values) P.params))
+case_values_step (CType-F.Param w cs) = map param_value (layer_values (CType-F.Param w cs))
+case_values_step (CType-F.Ints n) = map (λ k. param_value (number_param k)) (upto n)
+case_values_step (CType-F.Record fs) = map record_value (field_choices (map (λ f. (f.0, f.1.1)) fs))
+case_values_step (CType-F.Table P V) =
+    let vs = values_of P.0 in map (λ us. table_value (zip vs us)) (choices (map (λ v. V.1) vs))
 case_values_step d = record_value [] ∷ []
 
--- the value of argument i in each case of its type, in order: the parameters of the case, and string
--- cell l as its closed part l
+-- the value of argument i in each case of its type: the parameters of the case, and string cell l as
+-- its closed part l
 abbrev pub case_values : ℕ → CType → List Value
-case_values i T =
-    map (closed_parts i) (fold-CType CaseValues (λ d. record { params = layer_params d; values = case_values_step d }) T).values
+case_values i T = map (closed_parts i) (para-CType (List Value) case_values_step T)
 
 -- those of several arguments, from argument i on
 abbrev pub argument_cases : Flat → List ℕ → ℕ → List (List ℕ) → List (List Value)

@@ -7,14 +7,14 @@ use Rattle.gft_core.specs.declared.tree.Tree.TheOpen.{Tree-F}
 use Rattle.gft_core.specs.declared.tree.Tree.TheFolds.{fold-Tree}
 use Rattle.gft_syntax.specs.declared.ctype.CType.{CType}
 use Rattle.gft_syntax.specs.declared.ctype.CType.TheOpen.{CType-F}
-use Rattle.gft_syntax.specs.declared.ctype.CType.TheFolds.{fold-CType, map-CType}
+use Rattle.gft_syntax.specs.declared.ctype.CType.TheFolds.{para-CType}
 use Rattle.gft_syntax.specs.declared.flat.Flat.{Flat}
 use Rattle.gft_syntax.specs.declared.value.Param.{Param}
 use Rattle.gft_syntax.specs.declared.value.Value.{Value}
 use Rattle.gft_syntax.specs.declared.value.Value.TheOpen.{Value-F}
 use Rattle.gft_syntax.specs.declared.value.Value.TheFolds.{fold-Value}
 use Rattle.gft_model.specs.Brackets.{Mark, grammar, integer, text, Piece, word, bracketed}
-use Rattle.gft_model.specs.ConcreteTypes.{choices, values_step}
+use Rattle.gft_model.specs.ConcreteTypes.{choices, values_of, layer_values}
 use Rattle.gft_model.specs.JudgementTyping.{signature_in}
 use Rattle.gft_model.specs.Languages.{typed_at, is_lin, is_lindef, lin_type, outcomes_on}
 use Rattle.gft_model.specs.Outcomes.{Outcome, gives, stuck_at, outcomes}
@@ -81,31 +81,22 @@ abbrev pub literal_value : Mark → List ℕ → List ℕ → BracketedValue
 literal_value mark w p =
     record { value = record_value ((codes "s", string_value (Tok w ∷ [])) ∷ []); strings = bracketed p (word mark w ∷ []) ∷ [] }
 
--- the values of a type beside its default value: the closed part at each string leaf, the first
--- value at each parameter leaf
-pub record Default : Type 0 where
-  pub values : List Param
-  pub value : Value
-
 abbrev pub first_value : List Param → Value
 first_value [] = param_value (number_param 0)
 first_value (v ∷ vs) = param_value v
 
-abbrev pub default_value_step : CType-F Default → Value
-default_value_step CType-F.Str = string_value (Arg 0 0 ∷ [])
-default_value_step (CType-F.Param w cs) =
-    first_value (values_step (map-CType Default (List Param) (λ d. d.values) (CType-F.Param w cs)))
-default_value_step (CType-F.Ints n) = param_value (number_param 0)
-default_value_step (CType-F.Record fs) = record_value (map (λ f. (f.0, f.1.value)) fs)
-default_value_step (CType-F.Table P V) = table_value (map (λ v. (v, V.value)) P.values)
-default_value_step d = record_value []
+abbrev pub default_step : CType-F (CType × Value) → Value
+default_step CType-F.Str = string_value (Arg 0 0 ∷ [])
+default_step (CType-F.Param w cs) = first_value (layer_values (CType-F.Param w cs))
+default_step (CType-F.Ints n) = param_value (number_param 0)
+default_step (CType-F.Record fs) = record_value (map (λ f. (f.0, f.1.1)) fs)
+default_step (CType-F.Table P V) = table_value (map (λ v. (v, V.1)) (values_of P.0))
+default_step d = record_value []
 
-abbrev pub default_step : CType-F Default → Default
-default_step d =
-    record { values = values_step (map-CType Default (List Param) (λ c. c.values) d); value = default_value_step d }
-
+-- the default value of a type: the closed part at each string leaf, the first value at each parameter
+-- leaf; what is a type itself counts as the empty record
 abbrev pub default_value : CType → Value
-default_value T = (fold-CType Default default_step T).value
+default_value = para-CType Value default_step
 
 -- the closed part ?n
 abbrev pub hole_part : ℕ → BracketedValue
