@@ -30,3 +30,7 @@ pub mod SentenceExamples
 pub mod CutExamples
 pub mod ForestExamples
 pub mod ListingExamples
+pub mod FieldLaws
+pub mod ReadingExamples
+pub mod FlawLaws
+pub mod ReadingLaws

@@ -1,5 +1,5 @@
 -- Laws of the definitions.
-use Rattle.std.specs.Prelude.{◌≡◌, ℕ, List, [], map, Contains, Some, slice_get}
+use Rattle.std.specs.Prelude.{◌≡◌, ℕ, List, [], length, map, Contains, Some, slice_get}
 use Rattle.gft_core.specs.declared.symbol.Sym.{Sym}
 use Rattle.gft_core.specs.declared.tree.Tree.{Tree}
 use Rattle.gft_pmcfg.specs.declared.signature.AType.{AType}
@@ -7,9 +7,15 @@ use Rattle.gft_pmcfg.specs.declared.signature.Abstract.{Abstract}
 use Rattle.gft_pmcfg.specs.declared.signature.Fun.{Fun}
 use Rattle.gft_pmcfg.specs.declared.concrete.Prod.{Prod}
 use Rattle.gft_pmcfg.specs.declared.concrete.Concrete.{Concrete}
+use Rattle.gft_pmcfg.specs.declared.grammar.Grammar.{Grammar}
 use Rattle.gft_pmcfg.specs.declared.run.Run.{Run}
+use Rattle.gft_rules.specs.declared.rule.Rule.{Rule}
 use Rattle.gft_model.specs.Trees.{IsClosed, IsInstance}
-use Rattle.gft_model.specs.Typing.{HoleTypes, HasType}
+use Rattle.gft_model.specs.Typing.{HoleTypes, HasType, IsType}
+use Rattle.gft_model.specs.Flaws.{Flaw, HasTypeFlaw}
+use Rattle.gft_model.specs.Fields.{Fits, outcome, got}
+use Rattle.gft_model.specs.PortableFile.{file, fields_of, file_bytes}
+use Rattle.gft_model.specs.Reading.{Reads, HasFault}
 use Rattle.gft_model.specs.Skeleton.{HoleCategories, HasSkeletonType}
 use Rattle.gft_model.specs.Brackets.{Piece, erased}
 use Rattle.gft_model.specs.Runs.{Strings, IsRun, components_of, yield_of, holes_of, tree_of}
@@ -85,3 +91,22 @@ ListedCoversTree =
     (a : Abstract) (c : Concrete) (cat : ℕ) (words : List (List ℕ)) (depth : ℕ) (pattern : Tree)
     → (listed : IsListed a (IsBracketedString a c cat) cat words depth pattern)
     → IsInstance pattern listed.tree
+
+-- a type with a flaw is not well formed
+abbrev pub FlawedIsNoType : Type 0
+FlawedIsNoType = (a : Abstract) (T : HoleTypes) (type : AType) (flaw : Flaw) → AreNamedApart a.funs
+    → HaveOneType T → HasTypeFlaw a T type flaw → ¬ IsType a T type
+
+-- the fields of a file are read from its bytes, up to its end
+abbrev pub FieldsAreReadAgain : Type 0
+FieldsAreReadAgain = (a : Abstract) (cs : List Concrete) → Fits file (fields_of a cs)
+    → outcome file 0 (file_bytes a cs) ≡ got (fields_of a cs) (length (file_bytes a cs)) []
+
+-- the bytes of a grammar are at no fault
+abbrev pub GrammarHasNoFault : Type 0
+GrammarHasNoFault = (bytes : List ℕ) (g : Grammar) (rule : Rule) (at : ℕ) → Reads bytes g → ¬ HasFault bytes rule at
+
+-- bytes have at most one first fault
+abbrev pub FaultIsDetermined : Type 0
+FaultIsDetermined = (bytes : List ℕ) (first second : Rule) (i j : ℕ) → HasFault bytes first i
+    → HasFault bytes second j → (first ≡ second) × (i ≡ j)

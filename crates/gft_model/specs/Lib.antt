@@ -33,5 +33,8 @@ pub mod Cut
 pub mod Solutions
 pub mod Listing
 pub mod Sentences
+pub mod Flaws
+pub mod Fields
 pub mod PortableFile
+pub mod Reading
 pub mod Laws

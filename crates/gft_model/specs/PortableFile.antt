@@ -1,10 +1,16 @@
--- The bytes of a grammar: version 1 of the portable file.
-use Rattle.std.specs.Prelude.{◌≡◌, ℕ, zero, suc, ◌+◌, ◌-◌, ◌/◌, ◌%◌, if◌then◌else◌, List, [], ◌∷◌, ◌++◌, length, drop, codes}
-use Rattle.std.specs.List.{flat_map}
-use Rattle.std.specs.Str.{bytes_eq}
+-- Version 1 of the portable file: the fields of a grammar in order, and what must hold of each.
+use Rattle.std.specs.Prelude.{◌==◌, ℕ, zero, suc, ◌+◌, ◌-◌, Bool, true, false, not, ◌&&◌, ◌||◌, nat_lt, nat_le, bytes_eq, if◌then◌else◌, List, [], ◌∷◌, length, map, drop, codes, slice_get, slice_index_or, Option, Some, None}
+use Rattle.std.specs.Cmp.Lexicographic.{slice_cmp}
+use Rattle.std.specs.Option.{option_map_or}
+use Rattle.std.specs.Ordering.{nat_cmp}
+use Rattle.std.specs.Str.{is_utf8}
+use Rattle.std.specs.declared.cmp.Ordering.{Ordering}
+use Rattle.std.specs.declared.cmp.Ordering.TheVariants.{Less, Equal, Greater}
+use Rattle.gft_core.specs.Names.{is_name}
+use Rattle.gft_core.specs.Words.{is_word}
 use Rattle.gft_core.specs.declared.symbol.Sym.{Sym}
 use Rattle.gft_core.specs.declared.symbol.Sym.TheVariants.{Tok, Arg}
-use Rattle.gft_core.specs.declared.tree.Tree.{Tree}
+use Rattle.gft_core.specs.declared.tree.Tree.{Tree, out-Tree, App, Int, Str, Hole}
 use Rattle.gft_core.specs.declared.tree.Tree.TheOpen.{Tree-F}
 use Rattle.gft_core.specs.declared.tree.Tree.TheOpen as layer
 use Rattle.gft_pmcfg.specs.declared.signature.AType.{AType}
@@ -17,98 +23,367 @@ use Rattle.gft_pmcfg.specs.declared.concrete.Def.{Def}
 use Rattle.gft_pmcfg.specs.declared.concrete.Ref.{Ref}
 use Rattle.gft_pmcfg.specs.declared.concrete.Concrete.{Concrete}
 use Rattle.gft_pmcfg.specs.declared.grammar.Grammar.{Grammar}
+use Rattle.gft_pmcfg.specs.Nonterminals.{dimension_of}
+use Rattle.gft_pmcfg.specs.Ranges.{is_of, is_listed}
+use Rattle.gft_rules.specs.declared.rule.Rule.TheVariants.{BadMagic, BadVersion, BadText, BadNumber, BadTag, BadOrder}
+use Rattle.gft_model.specs.Fields.{Form, number, bytes, both, end, item, tagged, made, such, big_endian, number_after, written}
 use Rattle.gft_model.specs.Layers.{by_layers}
-use Rattle.gft_model.specs.Trees.{all_of}
+use Rattle.gft_model.specs.Source.{reserved_words, spelled_in}
 
--- a number in so many bytes, the highest first
-abbrev pub big_endian : ℕ → ℕ → List ℕ
-big_endian zero n = []
-big_endian (suc count) n = big_endian count (n / 256) ++ (n % 256) ∷ []
+-- a number of four bytes
+abbrev pub four : Form ℕ
+four = number 4
 
--- a number
-abbrev pub number : ℕ → List ℕ
-number n = big_endian 4 n
+-- a number below a limit
+abbrev pub below : ℕ → Form ℕ
+below limit = such four (λ n. nat_lt n limit) BadNumber 0
 
--- a text: its length and its bytes
-abbrev pub text : List ℕ → List ℕ
-text bytes = number (length bytes) ++ bytes
+-- so many values
+abbrev pub times : {A : Type 0} → ℕ → Form A → Form (List A)
+times zero f = end
+times (suc n) f = item f (λ x. times n f)
 
--- the items, one after another
-abbrev pub items : {A : Type 0} → (A → List ℕ) → List A → List ℕ
-items encoded xs = flat_map encoded xs
+-- their number, and the values
+abbrev pub counted : {A : Type 0} → Form A → Form (ℕ × List A)
+counted f = both four (λ n. times n f)
 
--- their number before them
-abbrev pub counted : {A : Type 0} → (A → List ℕ) → List A → List ℕ
-counted encoded xs = number (length xs) ++ items encoded xs
+-- a text: its length in bytes and its bytes
+abbrev pub Text : Type 0
+Text = ℕ × List ℕ
+
+abbrev pub text : (List ℕ → Bool) → Form Text
+text passes = both four (λ n. such (bytes n) passes BadText 0)
+
+-- a name is an identifier that is not reserved
+abbrev pub is_unreserved : List ℕ → Bool
+is_unreserved w = is_utf8 w && is_name w && option_map_or (λ r. false) (spelled_in reserved_words w) true
+
+abbrev pub is_literal_name : List ℕ → Bool
+is_literal_name w = bytes_eq w (codes "Int") || bytes_eq w (codes "String")
+
+abbrev pub name : Form Text
+name = text is_unreserved
+
+-- the name of a listed category is not that of a category of literals either
+abbrev pub category_name : Form Text
+category_name = text (λ w. is_unreserved w && not (is_literal_name w))
+
+-- a token is one word
+abbrev pub word : Form Text
+word = text (λ w. is_utf8 w && is_word w)
+
+-- what a term is of: 0 a function, 1 a variable, 2 an integer, 3 a word
+abbrev pub term_tag : Tree-F Tree → ℕ
+term_tag (layer.App f ts) = 0
+term_tag (layer.Hole k) = 1
+term_tag (layer.Int n) = 2
+term_tag (layer.Str w) = 3
+
+-- a function by its number in place of its name, the number of its terms, and the terms
+abbrev pub application : ℕ × (ℕ × List Tree) → Tree
+application (f, (n, ts)) = App (big_endian 4 f) ts
+
+abbrev pub application_parts : Tree-F Tree → ℕ × (ℕ × List Tree)
+application_parts (layer.App f ts) = (number_after 0 f, (length ts, ts))
+application_parts (layer.Hole k) = (0, (0, []))
+application_parts (layer.Int n) = (0, (0, []))
+application_parts (layer.Str w) = (0, (0, []))
+
+-- the number of a variable, and an integer
+abbrev pub number_in : Tree-F Tree → ℕ
+number_in (layer.App f ts) = 0
+number_in (layer.Hole k) = k
+number_in (layer.Int n) = n
+number_in (layer.Str w) = 0
+
+abbrev pub word_in : Tree-F Tree → Text
+word_in (layer.App f ts) = (0, [])
+word_in (layer.Hole k) = (0, [])
+word_in (layer.Int n) = (0, [])
+word_in (layer.Str w) = (length w, w)
+
+-- a variable: the number of an earlier argument, from 0
+abbrev pub variable : ℕ → Form Tree
+variable variables = made Hole (λ t. number_in (out-Tree t)) (below variables)
+
+-- a term behind its tag, where its own terms are of the given form
+abbrev pub untagged : ℕ → ℕ → Form Tree → ℕ → Form Tree
+untagged functions variables inner zero =
+    made application (λ t. application_parts (out-Tree t)) (both (below functions) (λ f. counted inner))
+untagged functions variables inner (suc zero) = variable variables
+untagged functions variables inner (suc (suc zero)) = made Int (λ t. number_in (out-Tree t)) (number 16)
+untagged functions variables inner (suc (suc (suc n))) = made (λ (w : Text). Str w.1) (λ t. word_in (out-Tree t)) word
+
+-- a term of so many levels at most, over so many functions and earlier arguments
+abbrev pub term : ℕ → ℕ → ℕ → Form Tree
+term functions variables zero =
+    tagged (λ t. term_tag (out-Tree t)) (such (number 1) (λ n. false) BadNumber 0) (λ n. variable variables)
+term functions variables (suc levels) =
+    tagged (λ t. term_tag (out-Tree t)) (such (number 1) (λ n. nat_lt n 4) BadTag 0)
+    (untagged functions variables (term functions variables levels))
+
+-- the most levels of a term
+abbrev pub most_levels : ℕ
+most_levels = 201
+
+-- how many categories there are, those of literals too, and how many functions
+pub record Sizes : Type 0 where
+  pub categories : ℕ
+  pub functions : ℕ
+
+-- a type: its category, the number of its indices, the terms
+abbrev pub TypeFields : Type 0
+TypeFields = ℕ × (ℕ × List Tree)
+
+abbrev pub type_form : Sizes → ℕ → Form TypeFields
+type_form sizes variables = both (below sizes.categories) (λ c. counted (term sizes.functions variables most_levels))
+
+-- so many types, each over the arguments before it
+abbrev pub types : Sizes → ℕ → ℕ → Form (List TypeFields)
+types sizes variables zero = end
+types sizes variables (suc n) = item (type_form sizes variables) (λ t. types sizes (suc variables) n)
+
+-- a category: its name, the number of its types, the types
+abbrev pub CategoryFields : Type 0
+CategoryFields = Text × (ℕ × List TypeFields)
+
+abbrev pub category : Sizes → Form CategoryFields
+category sizes = both category_name (λ w. both four (λ n. types sizes 0 n))
+
+-- a function: its name, the number of its arguments, their types, the type of its result
+abbrev pub FunctionFields : Type 0
+FunctionFields = Text × (ℕ × (List TypeFields × TypeFields))
+
+abbrev pub function : Sizes → Form FunctionFields
+function sizes = both name (λ w. both four (λ n. both (types sizes 0 n) (λ ts. type_form sizes n)))
+
+abbrev pub is_less : Ordering → Bool
+is_less Less = true
+is_less Equal = false
+is_less Greater = false
+
+-- the key comes after the one before it, if there is one
+abbrev pub comes_after : Option (List ℕ) → List ℕ → Bool
+comes_after None key = true
+comes_after (Some before) key = is_less (slice_cmp nat_cmp before key)
+
+-- so many values, whose keys are in strictly ascending byte order
+abbrev pub ascending : {A : Type 0} → (A → List ℕ) → Form A → Option (List ℕ) → ℕ → Form (List A)
+ascending key f before zero = end
+ascending key f before (suc n) =
+    item (such f (λ x. comes_after before (key x)) BadOrder 0) (λ x. ascending key f (Some (key x)) n)
+
+-- by their names
+abbrev pub named : {A : Type 0} → Form (Text × A) → ℕ → Form (List (Text × A))
+named {A} f n = ascending (λ (x : Text × A). x.0.1) f None n
+
+-- their number, and the values by their encodings
+abbrev pub ordered : {A : Type 0} → Form A → Form (ℕ × List A)
+ordered f = both four (λ n. ascending (written f) f None n)
+
+-- the first four bytes, the version, the name, the start category, the number of categories that are listed,
+-- the number of functions
+abbrev pub Heading : Type 0
+Heading = List ℕ × (ℕ × (Text × (ℕ × (ℕ × ℕ))))
+
+-- the number of categories; the start category, which stands before it, must be among them
+abbrev pub category_count : ℕ → Form ℕ
+category_count start =
+    such (such four (λ n. nat_lt start (n + 2)) BadNumber 4) (λ n. nat_le n 16384) BadNumber 0
+
+abbrev pub heading : Form Heading
+heading =
+    both (such (bytes 4) (bytes_eq (codes "GFPT")) BadMagic 0) (λ magic.
+    both (such four (λ n. n == 1) BadVersion 0) (λ version.
+    both name (λ w. both four (λ start. both (category_count start) (λ n. four)))))
+
+abbrev pub sizes_in : Heading → Sizes
+sizes_in (magic, (version, (w, (start, (categories, functions))))) =
+    record { categories = categories + 2; functions = functions }
+
+-- what a symbol is: 0 a word, 1 a component of an argument
+abbrev pub symbol_tag : Sym → ℕ
+symbol_tag (Tok w) = 0
+symbol_tag (Arg i l) = 1
+
+abbrev pub token_in : Sym → Text
+token_in (Tok w) = (length w, w)
+token_in (Arg i l) = (0, [])
+
+abbrev pub component_in : Sym → ℕ × ℕ
+component_in (Tok w) = (0, 0)
+component_in (Arg i l) = (i, l)
+
+-- a symbol behind its tag, over the dimensions of the arguments
+abbrev pub untagged_symbol : List ℕ → ℕ → Form Sym
+untagged_symbol dims zero = made (λ (w : Text). Tok w.1) token_in word
+untagged_symbol dims (suc n) =
+    made (λ (c : ℕ × ℕ). Arg c.0 c.1) component_in
+    (both (below (length dims)) (λ i. below (slice_index_or dims i 0)))
+
+abbrev pub symbol : List ℕ → Form Sym
+symbol dims = tagged symbol_tag (such (number 1) (λ n. nat_lt n 2) BadTag 0) (untagged_symbol dims)
+
+-- a sequence: the number of its symbols, the symbols
+abbrev pub SequenceFields : Type 0
+SequenceFields = ℕ × List Sym
+
+abbrev pub sequence : List ℕ → Form SequenceFields
+sequence dims = counted (symbol dims)
+
+-- of a listed category: the number of its cases, and its dimension
+abbrev pub InfoFields : Type 0
+InfoFields = ℕ × ℕ
+
+abbrev pub info : Form InfoFields
+info =
+    both (such four (λ n. nat_le 1 n && nat_le n 65536) BadNumber 0) (λ count.
+    such four (λ n. nat_le n 65536) BadNumber 0)
+
+-- the nonterminals of the categories, one category after the other
+abbrev pub infos_from : ℕ → List InfoFields → List Info
+infos_from first [] = []
+infos_from first ((count, dim) ∷ is) = record { first = first; count = count; dim = dim } ∷ infos_from (first + count) is
+
+-- those of literals before those that are listed
+abbrev pub infos_of : List InfoFields → List Info
+infos_of is = infos_from 0 ((1, 1) ∷ (1, 1) ∷ is)
+
+-- a nonterminal of the category
+abbrev pub nonterminal_of : List Info → ℕ → Form ℕ
+nonterminal_of infos cat = such four (is_of infos cat) BadNumber 0
+
+-- a nonterminal of a listed category
+abbrev pub listed_nonterminal : List Info → Form ℕ
+listed_nonterminal infos = such four (is_listed infos) BadNumber 0
+
+-- a nonterminal of each category
+abbrev pub nonterminals : List Info → List ℕ → Form (List ℕ)
+nonterminals infos [] = end
+nonterminals infos (c ∷ cs) = item (nonterminal_of infos c) (λ n. nonterminals infos cs)
+
+-- the categories of a function's arguments, and of its result
+abbrev pub argument_categories : List FunctionFields → ℕ → List ℕ
+argument_categories fs k =
+    option_map_or (λ (f : FunctionFields). map (λ (t : TypeFields). t.0) f.1.1.0) (slice_get fs k) []
+
+abbrev pub result_category : List FunctionFields → ℕ → ℕ
+result_category fs k = option_map_or (λ (f : FunctionFields). f.1.1.1.0) (slice_get fs k) 0
+
+-- a production: its function, a nonterminal for each argument, that of the result, a sequence for each component
+-- of the result
+abbrev pub ProductionFields : Type 0
+ProductionFields = ℕ × (List ℕ × (ℕ × List SequenceFields))
+
+abbrev pub production : List FunctionFields → List Info → Form ProductionFields
+production fs infos =
+    both (below (length fs)) (λ f.
+    both (nonterminals infos (argument_categories fs f)) (λ args.
+    both (nonterminal_of infos (result_category fs f)) (λ result.
+    times (dimension_of infos result) (sequence (map (dimension_of infos) args)))))
+
+-- a def: its nonterminal, a sequence for each component; the only component of its argument is the hole's token
+abbrev pub DefFields : Type 0
+DefFields = ℕ × List SequenceFields
+
+abbrev pub def_form : List Info → Form DefFields
+def_form infos =
+    both (listed_nonterminal infos) (λ result. times (dimension_of infos result) (sequence (1 ∷ [])))
+
+-- a ref: its nonterminal, one sequence
+abbrev pub RefFields : Type 0
+RefFields = ℕ × SequenceFields
+
+abbrev pub ref_form : List Info → Form RefFields
+ref_form infos = both (listed_nonterminal infos) (λ arg. sequence (dimension_of infos arg ∷ []))
+
+-- a concrete syntax: its name, what it makes of each listed category, its productions, defs and refs
+abbrev pub ConcreteFields : Type 0
+ConcreteFields =
+    Text × (List InfoFields × ((ℕ × List ProductionFields) × ((ℕ × List DefFields) × (ℕ × List RefFields))))
+
+abbrev pub concrete : ℕ → List FunctionFields → Form ConcreteFields
+concrete categories fs =
+    both name (λ w. both (times categories info) (λ is.
+    both (ordered (production fs (infos_of is))) (λ ps.
+    both (ordered (def_form (infos_of is))) (λ ds. ordered (ref_form (infos_of is))))))
+
+-- a file: its heading, the categories, the functions, the number of concrete syntaxes, the concrete syntaxes
+abbrev pub FileFields : Type 0
+FileFields = Heading × (List CategoryFields × (List FunctionFields × (ℕ × List ConcreteFields)))
+
+abbrev pub file : Form FileFields
+file =
+    both heading (λ h. let sizes = sizes_in h in
+    both (named (category sizes) (sizes.categories - 2)) (λ cs.
+    both (named (function sizes) sizes.functions) (λ fs.
+    both four (λ n. named (concrete (length cs) fs) n))))
 
 -- the number of the function of a name
 abbrev pub function_number : List Fun → List ℕ → ℕ
-function_number [] name = 0
-function_number (f ∷ fs) name = if bytes_eq f.name name then 0 else 1 + function_number fs name
+function_number [] w = 0
+function_number (f ∷ fs) w = if bytes_eq f.name w then 0 else 1 + function_number fs w
 
--- a term: a tag, then a function with its terms, the number of an earlier argument from 0, an integer, or a
--- word
-abbrev pub term_step : List Fun → Tree-F (List ℕ) → List ℕ
-term_step fs (layer.App f terms) = 0 ∷ number (function_number fs f) ++ number (length terms) ++ all_of terms
-term_step fs (layer.Hole k) = 1 ∷ number (k - 1)
-term_step fs (layer.Int n) = 2 ∷ big_endian 16 n
-term_step fs (layer.Str w) = 3 ∷ text w
+-- a term as it stands in a file: functions by their numbers, variables from 0
+abbrev pub numbered_step : List Fun → Tree-F Tree → Tree
+numbered_step fs (layer.App f ts) = App (big_endian 4 (function_number fs f)) ts
+numbered_step fs (layer.Hole k) = Hole (k - 1)
+numbered_step fs (layer.Int n) = Int n
+numbered_step fs (layer.Str w) = Str w
 
-abbrev pub term : List Fun → Tree → List ℕ
-term fs = by_layers (List ℕ) (term_step fs)
+abbrev pub numbered : List Fun → Tree → Tree
+numbered fs = by_layers Tree (numbered_step fs)
 
--- a type: its category and its indices
-abbrev pub type_bytes : List Fun → AType → List ℕ
-type_bytes fs t = number t.cat ++ counted (term fs) t.args
+-- the fields of each part of a grammar
+abbrev pub with_length : List ℕ → Text
+with_length w = (length w, w)
 
-abbrev pub category : List Fun → Cat → List ℕ
-category fs c = text c.name ++ counted (type_bytes fs) c.context
+abbrev pub type_fields : List Fun → AType → TypeFields
+type_fields fs t = (t.cat, (length t.args, map (numbered fs) t.args))
 
-abbrev pub function : List Fun → Fun → List ℕ
-function fs f = text f.name ++ counted (type_bytes fs) f.args ++ type_bytes fs f.result
+abbrev pub category_fields : List Fun → Cat → CategoryFields
+category_fields fs c = (with_length c.name, (length c.context, map (type_fields fs) c.context))
+
+abbrev pub function_fields : List Fun → Fun → FunctionFields
+function_fields fs f =
+    (with_length f.name, (length f.args, (map (type_fields fs) f.args, type_fields fs f.result)))
+
+abbrev pub sequence_fields : List Sym → SequenceFields
+sequence_fields seq = (length seq, seq)
+
+abbrev pub info_fields : Info → InfoFields
+info_fields i = (i.count, i.dim)
+
+abbrev pub production_fields : Prod → ProductionFields
+production_fields p = (p.fun, (p.args, (p.result, map sequence_fields p.seqs)))
+
+abbrev pub def_fields : Def → DefFields
+def_fields d = (d.result, map sequence_fields d.seqs)
+
+abbrev pub ref_fields : Ref → RefFields
+ref_fields r = (r.arg, sequence_fields r.seq)
 
 -- the categories that are listed: all but those of literals, which are the first two
 abbrev pub listed : {A : Type 0} → List A → List A
 listed xs = drop 2 xs
 
-abbrev pub abstract_bytes : Abstract → List ℕ
-abstract_bytes a =
-    text a.name ++ number a.start ++ number (length (listed a.cats)) ++ number (length a.funs)
-    ++ items (category a.funs) (listed a.cats) ++ items (function a.funs) a.funs
+abbrev pub concrete_fields : Concrete → ConcreteFields
+concrete_fields c =
+    (with_length c.name, (map info_fields (listed c.infos), ((length c.prods, map production_fields c.prods),
+    ((length c.defs, map def_fields c.defs), (length c.refs, map ref_fields c.refs)))))
 
--- a symbol: a tag, then a word, or an argument and a component
-abbrev pub symbol : Sym → List ℕ
-symbol (Tok w) = 0 ∷ text w
-symbol (Arg i l) = 1 ∷ number i ++ number l
+abbrev pub heading_fields : Abstract → Heading
+heading_fields a =
+    (codes "GFPT", (1, (with_length a.name, (a.start, (length (listed a.cats), length a.funs)))))
 
-abbrev pub sequence : List Sym → List ℕ
-sequence seq = counted symbol seq
-
--- the number of cases of a category, and its dimension
-abbrev pub info : Info → List ℕ
-info i = number i.count ++ number i.dim
-
-abbrev pub production : Prod → List ℕ
-production p = number p.fun ++ items number p.args ++ number p.result ++ items sequence p.seqs
-
-abbrev pub def_bytes : Def → List ℕ
-def_bytes d = number d.result ++ items sequence d.seqs
-
-abbrev pub ref_bytes : Ref → List ℕ
-ref_bytes r = number r.arg ++ sequence r.seq
-
-abbrev pub concrete_bytes : Concrete → List ℕ
-concrete_bytes c =
-    text c.name ++ items info (listed c.infos) ++ counted production c.prods ++ counted def_bytes c.defs
-    ++ counted ref_bytes c.refs
+abbrev pub fields_of : Abstract → List Concrete → FileFields
+fields_of a cs =
+    (heading_fields a, (map (category_fields a.funs) (listed a.cats), (map (function_fields a.funs) a.funs,
+    (length cs, map concrete_fields cs))))
 
 -- the bytes of a grammar
 abbrev pub file_bytes : Abstract → List Concrete → List ℕ
-file_bytes a cs = codes "GFPT" ++ number 1 ++ abstract_bytes a ++ counted concrete_bytes cs
+file_bytes a cs = written file (fields_of a cs)
 
 abbrev pub file_of : Grammar → List ℕ
 file_of g = file_bytes g.abs g.concretes
-
--- the bytes are those of the grammar; which fault other bytes have is said where they are read
-abbrev pub Reads : List ℕ → Grammar → Type 0
-Reads bytes g = file_of g ≡ bytes

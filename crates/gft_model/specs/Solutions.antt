@@ -5,7 +5,7 @@ use Rattle.gft_pmcfg.specs.declared.signature.AType.{AType}
 use Rattle.gft_pmcfg.specs.declared.signature.Cat.{Cat}
 use Rattle.gft_pmcfg.specs.declared.signature.Abstract.{Abstract}
 use Rattle.gft_model.specs.Trees.{IsHole, IsInstance, holes_of}
-use Rattle.gft_model.specs.Typing.{HoleTypes, HasType, IsAdmitted, IsTyped, type_at}
+use Rattle.gft_model.specs.Typing.{HasType, IsAdmitted, IsTyped, type_at, numbered_from}
 
 -- each hole is one of those before it, whose numbers go from 1 up to next, or it is next itself
 abbrev pub are_numbered : ℕ → List ℕ → Bool
@@ -23,11 +23,6 @@ pub record IsSolution (a : Abstract) (pattern solution : Tree) : Type 0 where
   pub typed : IsTyped a solution
   pub general : (t : Tree) → IsInstance pattern t → IsTyped a t → IsInstance solution t
   pub numbered : IsNumbered solution
-
--- the types of holes, numbered on from a number
-abbrev pub numbered_from : ℕ → List AType → HoleTypes
-numbered_from k [] = []
-numbered_from k (type ∷ types) = (k, type) ∷ numbered_from (suc k) types
 
 -- n holes, numbered on from a number
 abbrev pub holes_from : ℕ → ℕ → List Tree

@@ -1,5 +1,5 @@
 -- Abstract typing: dependent types of first order, without definitions.
-use Rattle.std.specs.Prelude.{◌≡◌, ◌<◌, ◌^◌, ℕ, zero, suc, List, [], ◌∷◌, ◌++◌, map, slice_get, slice_index_or, Some, Contains}
+use Rattle.std.specs.Prelude.{◌≡◌, ◌<◌, ◌^◌, ℕ, zero, suc, List, [], ◌∷◌, ◌++◌, map, slice_get, slice_index_or, Some, Contains, All, ⊤}
 use Rattle.std.specs.List.Sorted.{IsPermutation}
 use Rattle.gft_core.specs.Words.{IsWord}
 use Rattle.gft_core.specs.declared.tree.Tree.{Tree, Hole}
@@ -66,3 +66,29 @@ IsAdmitted a T = (ordered : HoleTypes) × IsPermutation ordered T × AreInOrder 
 -- the tree has some type under some admitted types of its holes
 abbrev pub IsTyped : Abstract → Tree → Type 0
 IsTyped a t = (T : HoleTypes) × IsAdmitted a T × (type : AType) × HasType a T t type
+
+-- the types of holes, numbered on from a number
+abbrev pub numbered_from : ℕ → List AType → HoleTypes
+numbered_from k [] = []
+numbered_from k (type ∷ types) = (k, type) ∷ numbered_from (suc k) types
+
+-- types of arguments are well formed, each over those before it, which its variables name; others may stand before
+-- all
+abbrev pub AreTypes : Abstract → List AType → List AType → Type 0
+AreTypes a before [] = ⊤
+AreTypes a before (type ∷ types) = IsType a (numbered_from 1 before) type × AreTypes a (before ++ type ∷ []) types
+
+-- the types of a category's indices are
+abbrev pub IsCategoryTyped : Abstract → Cat → Type 0
+IsCategoryTyped a c = AreTypes a [] c.context
+
+-- those of a function's arguments and of its result
+abbrev pub signature_of : Fun → List AType
+signature_of f = f.args ++ f.result ∷ []
+
+abbrev pub IsFunctionTyped : Abstract → Fun → Type 0
+IsFunctionTyped a f = AreTypes a [] (signature_of f)
+
+-- all types of an abstract syntax are well formed
+abbrev pub HasTypes : Abstract → Type 0
+HasTypes a = All (IsCategoryTyped a) a.cats × All (IsFunctionTyped a) a.funs

@@ -1,5 +1,5 @@
 //! Laws of the definitions. Each function does nothing; its clause is the law.
-ghost use Rattle.gft_model.specs.Laws.{CutCoversTree, ListedCoversTree, SolutionIsUnique, ErasedIsString, YieldIsDetermined, NonterminalIsDetermined, ValueIsOfRun, RunGivesValue, TypeIsDetermined, TypedHasSkeletonType};
+ghost use Rattle.gft_model.specs.Laws.{CutCoversTree, ListedCoversTree, SolutionIsUnique, ErasedIsString, YieldIsDetermined, NonterminalIsDetermined, ValueIsOfRun, RunGivesValue, TypeIsDetermined, TypedHasSkeletonType, FlawedIsNoType, FieldsAreReadAgain, GrammarHasNoFault, FaultIsDetermined};
 
 /// The solution of a pattern is unique: it fixes the numbers of its holes too.
 pub fn solution_is_unique()
@@ -50,4 +50,25 @@ pub fn cut_covers_tree()
 /// A tree of which a pattern is listed is an instance of that pattern.
 pub fn listed_covers_tree()
     ensures { ListedCoversTree }
+{}
+
+/// A type with a flaw is not well formed, where functions are told apart by their names and each hole has
+/// one type.
+pub fn flawed_is_no_type()
+    ensures { FlawedIsNoType }
+{}
+
+/// The fields of a portable file are read from its bytes, and nothing is left behind them.
+pub fn fields_are_read_again()
+    ensures { FieldsAreReadAgain }
+{}
+
+/// The bytes of a grammar are at no fault, and nothing stands behind them.
+pub fn grammar_has_no_fault()
+    ensures { GrammarHasNoFault }
+{}
+
+/// A file has at most one first fault.
+pub fn fault_is_determined()
+    ensures { FaultIsDetermined }
 {}

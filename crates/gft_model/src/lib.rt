@@ -5,7 +5,8 @@ mod laws;
 mod sources;
 
 pub use laws::{
-    cut_covers_tree, erased_is_string, listed_covers_tree, nonterminal_is_determined,
+    cut_covers_tree, erased_is_string, fault_is_determined, fields_are_read_again,
+    flawed_is_no_type, grammar_has_no_fault, listed_covers_tree, nonterminal_is_determined,
     run_gives_value, solution_is_unique, type_is_determined, typed_has_skeleton_type,
     value_is_of_run, yield_is_determined,
 };

@@ -1,0 +1,37 @@
+-- Files that are read, and their faults.
+use Rattle.std.specs.Prelude.{◌≡◌, ℕ, List, [], ◌+◌, length}
+use Rattle.std.proofs.Common.{sym, ap, ◌∙◌, arith}
+use Rattle.std.proofs.lemmas.List.{append-nil}
+use Rattle.gft_rules.specs.declared.rule.Rule.{Rule}
+use Rattle.gft_pmcfg.specs.declared.signature.Abstract.{Abstract}
+use Rattle.gft_pmcfg.specs.declared.concrete.Concrete.{Concrete}
+use Rattle.gft_pmcfg.specs.declared.grammar.Grammar.{Grammar}
+use Rattle.gft_model.specs.Fields.{Fits, got, outcome}
+use Rattle.gft_model.specs.PortableFile.{file, fields_of, file_bytes}
+use Rattle.gft_model.specs.Reading.{Reads, HasFault, of_field, after_grammar}
+use Rattle.gft_model.proofs.FieldLaws.{read_again}
+
+-- the fields of a file are read again, and nothing is left
+pub fields_again : (a : Abstract) (cs : List Concrete) → Fits file (fields_of a cs)
+    → outcome file 0 (file_bytes a cs) ≡ got (fields_of a cs) (length (file_bytes a cs)) []
+fields_again a cs h =
+    let count : 0 + length (file_bytes a cs) ≡ length (file_bytes a cs) = omega arith in
+    ap (outcome file 0) (sym (append-nil (file_bytes a cs))) ∙ read_again file (fields_of a cs) 0 [] h
+    ∙ ap (λ n. got (fields_of a cs) n []) count
+
+-- the bytes of a grammar are at no fault
+pub no_fault : {bytes : List ℕ} {g : Grammar} {rule : Rule} {at : ℕ} → Reads bytes g → HasFault bytes rule at → ⊥
+no_fault {g} r (of_field e) =
+    let again = fields_again g.abs g.concretes r.grammar.fields in
+    let whole = ap (outcome file 0) r.bytes_are in cc
+no_fault {g} r (after_grammar e) =
+    let again = fields_again g.abs g.concretes r.grammar.fields in
+    let whole = ap (outcome file 0) r.bytes_are in cc
+
+-- bytes have at most one first fault
+pub one_fault : {bytes : List ℕ} {first second : Rule} {i j : ℕ} → HasFault bytes first i → HasFault bytes second j
+    → (first ≡ second) × (i ≡ j)
+one_fault (of_field d) (of_field e) = (cc, cc)
+one_fault (of_field d) (after_grammar e) = (cc, cc)
+one_fault (after_grammar d) (of_field e) = (cc, cc)
+one_fault (after_grammar d) (after_grammar e) = (cc, cc)

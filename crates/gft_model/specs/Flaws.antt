@@ -1,0 +1,51 @@
+-- Flaws: what is wrong with a type whose names and variables there are, or with a production.
+use Rattle.std.specs.Prelude.{◌≡◌, ◌≢◌, List, [], ◌∷◌, ◌++◌, slice_get, Some, Contains}
+use Rattle.gft_core.specs.declared.tree.Tree.{Tree}
+use Rattle.gft_pmcfg.specs.declared.signature.AType.{AType}
+use Rattle.gft_pmcfg.specs.declared.signature.Cat.{Cat}
+use Rattle.gft_pmcfg.specs.declared.signature.Fun.{Fun}
+use Rattle.gft_pmcfg.specs.declared.signature.Abstract.{Abstract}
+use Rattle.gft_model.specs.Trees.{IsApplication}
+use Rattle.gft_model.specs.Typing.{HoleTypes, HasType, IsType, type_at, numbered_from}
+
+-- a wrong number of indices or arguments, an index of another type, a production at the root of no run of a tree
+pub data Flaw : Type 0 where
+  arity : Flaw
+  index_type : Flaw
+  unproductive : Flaw
+
+mutual
+  -- the first flaw in a tree, its parts looked at first and from left to right
+  pub data HasFlaw (a : Abstract) (T : HoleTypes) : Tree → Flaw → Type 0 where
+    application : {t : Tree} {f : Fun} {ts : List Tree} {flaw : Flaw} → Contains a.funs f → IsApplication t f.name ts
+        → HaveFlaw a T [] f.args ts flaw → HasFlaw a T t flaw
+
+  -- the first flaw in trees for types, of which each is over the trees before it: each tree is compared once its own
+  -- parts are looked at, trees past the last type are typed by themselves, and their number is looked at last
+  pub data HaveFlaw (a : Abstract) (T : HoleTypes) : List Tree → List AType → List Tree → Flaw → Type 0 where
+    inside : {before : List Tree} {types : List AType} {t : Tree} {ts : List Tree} {flaw : Flaw}
+        → HasFlaw a T t flaw → HaveFlaw a T before types (t ∷ ts) flaw
+    other_type : {before : List Tree} {type found : AType} {types : List AType} {t : Tree} {ts : List Tree}
+        → HasType a T t found → found ≢ type_at before type → HaveFlaw a T before (type ∷ types) (t ∷ ts) index_type
+    later : {before : List Tree} {type : AType} {types : List AType} {t : Tree} {ts : List Tree} {flaw : Flaw}
+        → HasType a T t (type_at before type) → HaveFlaw a T (before ++ t ∷ []) types ts flaw
+        → HaveFlaw a T before (type ∷ types) (t ∷ ts) flaw
+    past : {before : List Tree} {found : AType} {t : Tree} {ts : List Tree} {flaw : Flaw} → HasType a T t found
+        → HaveFlaw a T before [] ts flaw → HaveFlaw a T before [] (t ∷ ts) flaw
+    too_many : {before : List Tree} {found : AType} {t : Tree} → HasType a T t found
+        → HaveFlaw a T before [] (t ∷ []) arity
+    too_few : {before : List Tree} {type : AType} {types : List AType} → HaveFlaw a T before (type ∷ types) [] arity
+
+-- the first flaw of a type: of its indices for the types of its category's context
+pub record HasTypeFlaw (a : Abstract) (T : HoleTypes) (type : AType) (flaw : Flaw) : Type 0 where
+  pub category : Cat
+  pub numbered : slice_get a.cats type.cat ≡ Some category
+  pub indices : HaveFlaw a T [] category.context type.args flaw
+
+-- the first flaw of types of arguments, each over those before it
+pub data HaveTypesFlaw (a : Abstract) : List AType → List AType → Flaw → Type 0 where
+  here : {before : List AType} {type : AType} {types : List AType} {flaw : Flaw}
+      → HasTypeFlaw a (numbered_from 1 before) type flaw → HaveTypesFlaw a before (type ∷ types) flaw
+  later : {before : List AType} {type : AType} {types : List AType} {flaw : Flaw}
+      → IsType a (numbered_from 1 before) type → HaveTypesFlaw a (before ++ type ∷ []) types flaw
+      → HaveTypesFlaw a before (type ∷ types) flaw
