@@ -150,3 +150,60 @@ dead_eng = record {
   defs = def_of 2 ∷ def_of 3 ∷ [];
   refs = ref_of 2 ∷ ref_of 3 ∷ [];
 }
+
+-- the same where a hole of D gives nothing: `lindef D = variants {}`
+abbrev pub barren_eng : Concrete
+barren_eng = record {
+  name = codes "BarrenEng";
+  infos = dead_eng.infos;
+  prods = dead_eng.prods;
+  defs = def_of 3 ∷ [];
+  refs = dead_eng.refs;
+}
+
+-- `abstract Nil = {cat S ; fun None, Blank, Word : S ;}`, with S 2
+abbrev pub nil : Abstract
+nil = record {
+  name = codes "Nil";
+  start = 2;
+  cats = cats (plain (codes "S") ∷ []);
+  funs =
+      record { name = codes "Blank"; args = []; result = of 2 } ∷ record {
+        name = codes "None";
+        args = [];
+        result = of 2;
+      }
+      ∷ record { name = codes "Word"; args = []; result = of 2 } ∷ [];
+}
+
+-- `None = {s = variants {}} ; Blank = {s = []} ; Word = {s = "w"}`
+abbrev pub nil_eng : Concrete
+nil_eng = record {
+  name = codes "NilEng";
+  infos = single 0 ∷ single 1 ∷ single 2 ∷ [];
+  prods =
+      record { fun = 0; args = []; result = 2; seqs = [] ∷ [] }
+      ∷ record { fun = 2; args = []; result = 2; seqs = (Tok (codes "w") ∷ []) ∷ [] } ∷ [];
+  defs = def_of 2 ∷ [];
+  refs = ref_of 2 ∷ [];
+}
+
+-- `abstract Ages = {cat Cmd ; fun Age : Int -> Cmd ;}`, with Cmd 2
+abbrev pub ages : Abstract
+ages = record {
+  name = codes "Ages";
+  start = 2;
+  cats = cats (plain (codes "Cmd") ∷ []);
+  funs = record { name = codes "Age"; args = of 0 ∷ []; result = of 2 } ∷ [];
+}
+
+-- `Age n = {s = "age" ++ n.s}`
+abbrev pub ages_eng : Concrete
+ages_eng = record {
+  name = codes "AgesEng";
+  infos = single 0 ∷ single 1 ∷ single 2 ∷ [];
+  prods =
+      record { fun = 0; args = 0 ∷ []; result = 2; seqs = (Tok (codes "age") ∷ Arg 0 0 ∷ []) ∷ [] } ∷ [];
+  defs = def_of 2 ∷ [];
+  refs = ref_of 2 ∷ [];
+}

@@ -24,6 +24,7 @@ pub mod RunExamples
 pub mod StringExamples
 pub mod Renaming
 pub mod RunLaws
+pub mod RunStringLaws
 pub mod CutLaws
 pub mod SkeletonLaws
 pub mod SentenceExamples
@@ -34,3 +35,7 @@ pub mod FieldLaws
 pub mod ReadingExamples
 pub mod FlawLaws
 pub mod ReadingLaws
+pub mod TypedTreeExamples
+pub mod KeptExamples
+pub mod NilExamples
+pub mod GrammarExamples

@@ -1,32 +1,67 @@
 -- The file of 133 bytes is read; files next to it are at fault.
-use Rattle.std.specs.Prelude.{◌≡◌, ◌++◌, [], ◌∷◌, take, drop}
-use Rattle.std.proofs.Common.{refl}
+use Rattle.std.specs.Prelude.{◌≡◌, ◌++◌, ◌+◌, ℕ, List, [], ◌∷◌, take, drop}
+use Rattle.std.proofs.Common.{refl, sym, ◌∙◌}
 use Rattle.std.specs.Str.{is_utf8, chars}
 use lib.Utf8
 use Rattle.ucd_derived.specs.Binary.{is_xid_start, is_xid_continue}
 use Rattle.ucd_derived.specs.XidStartRanges.{xid_start_ranges}
 use Rattle.ucd_derived.specs.XidContinueRanges.{xid_continue_ranges}
 use Rattle.ucd_table.specs.Rows.{in_ranges}
-use Rattle.gft_rules.specs.declared.rule.Rule.TheVariants.{Short, BadVersion}
-use Rattle.gft_model.specs.Fields.{outcome, got, fault}
+use Rattle.gft_rules.specs.declared.rule.Rule.{Rule}
+use Rattle.gft_rules.specs.declared.rule.Rule.TheVariants.{Short, BadVersion, BadText, BadNumber, BadTag, TooLong}
+use Rattle.gft_model.specs.Fields.{outcome, got}
 use Rattle.gft_model.specs.PortableFile.{file, file_bytes, fields_of}
+use Rattle.gft_model.specs.Reading.{HasFault, of_field, after_grammar}
 use Rattle.gft_model.proofs.Tiny.{abs, eng}
 
+abbrev tiny : List ℕ
+tiny = file_bytes abs (eng ∷ [])
+
 -- it is read whole
-read : outcome file 0 (file_bytes abs (eng ∷ [])) ≡ got (fields_of abs (eng ∷ [])) 133 []
+pub read : outcome file 0 tiny ≡ got (fields_of abs (eng ∷ [])) 133 []
 unfolding is_utf8 chars lib.Utf8.encode is_xid_start is_xid_continue xid_start_ranges xid_continue_ranges in_ranges
 read = refl
 
+-- so it is at no fault
+no_fault : (rule : Rule) (at : ℕ) → ¬ HasFault tiny rule at
+no_fault rule at (of_field e) = let both = sym read ∙ e in cc
+no_fault rule at (after_grammar e) = let both = sym read ∙ e in cc
+
 -- without its last byte it ends in the last field
-short : outcome file 0 (take 132 (file_bytes abs (eng ∷ []))) ≡ fault Short 129
+short : HasFault (take 132 tiny) Short 129
 unfolding is_utf8 chars lib.Utf8.encode is_xid_start is_xid_continue xid_start_ranges xid_continue_ranges in_ranges
-short = refl
+short = of_field refl
 
--- with a byte more, that byte is left
-long : outcome file 0 (file_bytes abs (eng ∷ []) ++ 0 ∷ []) ≡ got (fields_of abs (eng ∷ [])) 133 (0 ∷ [])
+-- with a byte more, that byte is too much
+long : HasFault (tiny ++ 0 ∷ []) TooLong 133
 unfolding is_utf8 chars lib.Utf8.encode is_xid_start is_xid_continue xid_start_ranges xid_continue_ranges in_ranges
-long = refl
+long = after_grammar {x = fields_of abs (eng ∷ [])} {rest = []} refl
 
--- of version 3
-version : outcome file 0 (take 7 (file_bytes abs (eng ∷ [])) ++ 3 ∷ drop 8 (file_bytes abs (eng ∷ []))) ≡ fault BadVersion 4
-version = refl
+-- the file with another byte at an offset
+abbrev with_byte : ℕ → ℕ → List ℕ
+with_byte at b = take at tiny ++ b ∷ drop (at + 1) tiny
+
+-- version 3, the start category 3 of three, a space as a name, a symbol of tag 2, a result in `String`
+version : HasFault (with_byte 7 3) BadVersion 4
+version = of_field refl
+
+start : HasFault (with_byte 16 3) BadNumber 13
+unfolding is_utf8 chars lib.Utf8.encode is_xid_start is_xid_continue xid_start_ranges xid_continue_ranges in_ranges
+start = of_field refl
+
+space : HasFault (with_byte 38 32) BadText 38
+unfolding is_utf8 chars lib.Utf8.encode is_xid_start is_xid_continue xid_start_ranges xid_continue_ranges in_ranges
+space = of_field refl
+
+symbol : HasFault (with_byte 85 2) BadTag 85
+unfolding is_utf8 chars lib.Utf8.encode is_xid_start is_xid_continue xid_start_ranges xid_continue_ranges in_ranges
+symbol = of_field refl
+
+result : HasFault (with_byte 80 1) BadNumber 77
+unfolding is_utf8 chars lib.Utf8.encode is_xid_start is_xid_continue xid_start_ranges xid_continue_ranges in_ranges
+result = of_field refl
+
+-- of two faults the start category's comes before that of the number of categories, and an end in that number before it
+count : HasFault (take 16 tiny ++ 255 ∷ 255 ∷ []) Short 17
+unfolding is_utf8 chars lib.Utf8.encode is_xid_start is_xid_continue xid_start_ranges xid_continue_ranges in_ranges
+count = of_field refl

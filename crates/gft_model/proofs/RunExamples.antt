@@ -27,7 +27,7 @@ dead_in_range : is_concrete dead dead_eng ≡ true
 dead_in_range = refl
 
 -- `Very Base`
-abbrev very_base : Run
+abbrev pub very_base : Run
 very_base = App 1 (App 0 [] ∷ [])
 
 abbrev base_gives : List ℕ → Strings
@@ -39,10 +39,10 @@ very_base_gives = simp components_of-App
 very_base_yields : yield_of cyc_eng whole very_base ≡ codes "q" ∷ []
 very_base_yields = ap (λ (g : List ℕ → Strings). erased (filled (g [] ∷ []) whole)) very_base_gives
 
-very_base_is_closed : holes_of very_base ≡ []
+pub very_base_is_closed : holes_of very_base ≡ []
 very_base_is_closed = simp by_layers-App
 
-very_base_is_run : IsRun cyc_eng very_base 2
+pub very_base_is_run : IsRun cyc_eng very_base 2
 very_base_is_run = application refl (outs-App _ _) (more (application refl (outs-App _ _) none) none)
 
 -- it is a run for the word q
@@ -91,7 +91,7 @@ f_hole_gives = components_of-App gend_eng 0 _
 f_hole_holes : holes_of f_hole ≡ 2 ∷ []
 f_hole_holes = simp (by_layers-App, by_layers-Hole)
 
-m_is_closed : holes_of (App 2 []) ≡ []
+pub m_is_closed : holes_of (App 2 []) ≡ []
 m_is_closed = simp by_layers-App
 
 f_hole_is_for_x : IsRunFor gend_eng 3 (codes "x" ∷ []) f_hole

@@ -1,5 +1,5 @@
 -- What derivations of values, refs and unread holes say.
-use Rattle.std.specs.Prelude.{◌≡◌, ℕ, zero, suc, All, List, [], ◌∷◌, ◌++◌, map, Contains, Some, slice_get}
+use Rattle.std.specs.Prelude.{◌≡◌, ℕ, zero, suc, All, List, [], ◌∷◌, ◌++◌, map, Contains, Some, slice_get, ⊤}
 use Rattle.std.proofs.Common.{refl, subst, arith}
 use Rattle.gft_core.specs.declared.tree.Tree.{Tree}
 use Rattle.gft_pmcfg.specs.declared.signature.Fun.{Fun}
@@ -81,3 +81,13 @@ all_none P k d b = absurd (omega arith)
 pub all_one : {A : Type 0} (P : A → Type 0) (x : A) → P x → All P (x ∷ [])
 all_one P x h zero d b = h
 all_one P x h (suc k) d b = absurd (omega arith)
+
+-- the same, one after the other
+abbrev pub EachOf : {A : Type 0} → (A → Type 0) → List A → Type 0
+EachOf P [] = ⊤
+EachOf P (x ∷ xs) = P x × EachOf P xs
+
+pub all_from : {A : Type 0} (P : A → Type 0) (xs : List A) → EachOf P xs → All P xs
+all_from P [] h k d b = absurd (omega arith)
+all_from P (x ∷ xs) h zero d b = h.0
+all_from P (x ∷ xs) h (suc k) d b = all_from P xs h.1 k d (omega (arith, b))

@@ -1,7 +1,7 @@
 -- Worked examples of sentences: in Dead only `yes` may begin a sentence.
 use Rattle.std.specs.Prelude.{◌≡◌, ℕ, zero, suc, Bool, true, false, List, [], ◌∷◌, ◌++◌, map, codes, Contains, Option, Some, None, slice_get, slice_index_or}
 use Rattle.std.specs.Str.{bytes_eq}
-use Rattle.std.proofs.Common.{refl, sym, ap, ◌∙◌, subst, arith}
+use Rattle.std.proofs.Common.{inl, inr, refl, sym, ap, ◌∙◌, subst, arith}
 use Rattle.gft_core.specs.declared.symbol.Sym.{Sym}
 use Rattle.gft_core.specs.declared.symbol.Sym.TheVariants.{Tok}
 use Rattle.gft_core.specs.declared.tree.Tree.{Tree, App}
@@ -11,12 +11,12 @@ use Rattle.gft_pmcfg.specs.declared.concrete.Prod.{Prod}
 use Rattle.gft_pmcfg.specs.declared.concrete.Ref.{Ref}
 use Rattle.gft_model.specs.Trees.{IsHole, IsApplication}
 use Rattle.gft_model.specs.Skeleton.{HasSkeletonType, HaveSkeletonTypes, hole, integer, text, application, none, more, categories_of}
-use Rattle.gft_model.specs.Brackets.{Mark, grammar, Piece, marked}
+use Rattle.gft_model.specs.Brackets.{Mark, grammar, Piece, marked, erased}
 use Rattle.gft_model.specs.Runs.{Strings, IsRef, listed, of_numbers, of_strings, applied, filled}
 use Rattle.gft_model.specs.RunStrings as strings
 use Rattle.gft_model.specs.RunStrings.{HasValue, IsBracketedString}
 use Rattle.gft_model.specs.Listing.{Language}
-use Rattle.gft_model.specs.Sentences.{IsSentence, IsNext, Next, a_word, any_integer, any_string, next_of}
+use Rattle.gft_model.specs.Sentences.{IsSentence, Begins, IsNext, Next, a_word, any_integer, any_string, next_of}
 use Rattle.gft_model.proofs.RunLemmas.{gives, no_values}
 use Rattle.gft_model.proofs.Grammars.{dead, dead_eng, whole}
 
@@ -154,3 +154,10 @@ no_is_not_next s =
     let first : (grammar, codes "yes") ≡ s.here = ap first_of words
     ∙ ap (λ (ws : List (Mark × List ℕ)). first_of (ws ++ s.here ∷ s.after)) nothing in
     let wrong : true ≡ false = ap (λ (w : Mark × List ℕ). is_yes (next_of w)) first ∙ ap is_yes s.is in cc
+
+-- no words that begin with it are a sentence
+no_begins_nothing : ¬ Begins dead language 3 (codes "no" ∷ [])
+no_begins_nothing (inl e) = cc
+no_begins_nothing (inr (rest, s)) =
+    let words : codes "yes" ∷ [] ≡ codes "no" ∷ rest = ap erased (sym (only_yes s.of_category s.of_tree)) ∙ s.words_are in
+    let wrong : true ≡ false = ap (λ (ws : List (List ℕ)). bytes_eq (slice_index_or ws 0 []) (codes "yes")) words in cc

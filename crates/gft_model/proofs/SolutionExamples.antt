@@ -14,14 +14,14 @@ use Rattle.gft_model.proofs.TreeLemmas.{filled-App, filled-Hole, holes_of-App, h
 use Rattle.gft_model.proofs.TypingLemmas.{applies, first_type, other_types}
 
 -- `Same x (mk y)`
-abbrev same_of : Tree → Tree → Tree
+abbrev pub same_of : Tree → Tree → Tree
 same_of x y = App (codes "Same") (x ∷ App (codes "mk") (y ∷ []) ∷ [])
 
 abbrev wait_for : Tree → Tree
 wait_for x = App (codes "Wait") (x ∷ [])
 
 -- the functions are told apart by their names
-is_same : (f : Fun) → Contains home.funs f → f.name ≡ codes "Same" → f ≡ same
+pub is_same : (f : Fun) → Contains home.funs f → f.name ≡ codes "Same" → f ≡ same
 is_same f (zero, b, g) n = sym g
 is_same f (suc zero, b, g) n = let e : false ≡ true = ap (λ (h : Fun). bytes_eq h.name (codes "Same")) g
     ∙ ap (λ m. bytes_eq m (codes "Same")) n in cc
@@ -31,7 +31,7 @@ is_same f (suc (suc (suc zero)), b, g) n = let e : false ≡ true =
     ap (λ (h : Fun). bytes_eq h.name (codes "Same")) g ∙ ap (λ m. bytes_eq m (codes "Same")) n in cc
 is_same f (suc (suc (suc (suc k))), b, g) n = absurd (omega (arith, b))
 
-is_mk : (f : Fun) → Contains home.funs f → f.name ≡ codes "mk" → f ≡ mk
+pub is_mk : (f : Fun) → Contains home.funs f → f.name ≡ codes "mk" → f ≡ mk
 is_mk f (zero, b, g) n = let e : false ≡ true = ap (λ (h : Fun). bytes_eq h.name (codes "mk")) g
     ∙ ap (λ m. bytes_eq m (codes "mk")) n in cc
 is_mk f (suc zero, b, g) n = let e : false ≡ true = ap (λ (h : Fun). bytes_eq h.name (codes "mk")) g
@@ -42,7 +42,7 @@ is_mk f (suc (suc (suc zero)), b, g) n = sym g
 is_mk f (suc (suc (suc (suc k))), b, g) n = absurd (omega (arith, b))
 
 -- one hole of type Kind
-abbrev kinds : HoleTypes
+abbrev pub kinds : HoleTypes
 kinds = (1, kind) ∷ []
 
 admitted : IsAdmitted home kinds
@@ -60,16 +60,16 @@ admitted = (
   }),
 )
 
-hole_typed : HasType home kinds (Hole 1) kind
+pub hole_typed : HasType home kinds (Hole 1) kind
 hole_typed = hole (outs-Hole 1) (omega arith) (0, omega arith, refl)
 
-solution_typed : HasType home kinds (same_of (Hole 1) (Hole 1)) cmd
+pub solution_typed : HasType home kinds (same_of (Hole 1) (Hole 1)) cmd
 solution_typed = application {f =
     same} (0, omega arith, refl) (outs-App _ _) (more hole_typed (more (application {f = mk}
     (3, omega arith, refl) (outs-App _ _) (more hole_typed none)) none))
 
 -- where `Same x (mk y)` has a type, x is y
-equal_kinds : (T : HoleTypes) (type : AType) (x y : Tree) → HasType home T (same_of x y) type → x ≡ y
+pub equal_kinds : (T : HoleTypes) (type : AType) (x y : Tree) → HasType home T (same_of x y) type → x ≡ y
 equal_kinds T type x y d =
     let whole = applies (codes "Same") (x ∷ App (codes "mk") (y ∷ []) ∷ []) (outs-App _ _) d in
     let arguments : HaveTypes home T [] (kind ∷ tag ∷ []) (x ∷ App (codes "mk") (y ∷ []) ∷ [])

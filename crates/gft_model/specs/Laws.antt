@@ -18,7 +18,7 @@ use Rattle.gft_model.specs.PortableFile.{file, fields_of, file_bytes}
 use Rattle.gft_model.specs.Reading.{Reads, HasFault}
 use Rattle.gft_model.specs.Skeleton.{HoleCategories, HasSkeletonType}
 use Rattle.gft_model.specs.Brackets.{Piece, erased}
-use Rattle.gft_model.specs.Runs.{Strings, IsRun, components_of, yield_of, holes_of, tree_of}
+use Rattle.gft_model.specs.Runs.{Strings, IsRun, IsRef, IsRunFor, components_of, yield_of, holes_of, tree_of}
 use Rattle.gft_model.specs.RunStrings.{HasValue, IsBracketedString, IsStringOf}
 use Rattle.gft_model.specs.Cut.{cut_of}
 use Rattle.gft_model.specs.Solutions.{IsSolution}
@@ -58,6 +58,26 @@ abbrev pub RunGivesValue : Type 0
 RunGivesValue = (a : Abstract) (c : Concrete) (p : List ℕ) (r : Run) (n : ℕ) → AreOfFunctions a c
     → IsRun c r n → holes_of r ≡ []
     → HasValue a c p (tree_of a c r) n (components_of c r p)
+
+-- some run of the tree yields the words under a ref
+pub record Yields (a : Abstract) (c : Concrete) (t : Tree) (words : List (List ℕ)) : Type 0 where
+  pub run : Run
+  pub nonterminal : ℕ
+  pub is_run : IsRun c run nonterminal
+  pub of_tree : tree_of a c run ≡ t
+  pub seq : List Sym
+  pub ref : IsRef c nonterminal seq
+  pub yields : yield_of c seq run ≡ words
+
+-- a string of a closed tree is what some run of the tree yields
+abbrev pub StringIsOfRun : Type 0
+StringIsOfRun = (a : Abstract) (c : Concrete) (cat : ℕ) (t : Tree) (words : List (List ℕ)) → IsClosed t
+    → IsStringOf a c cat t words → Yields a c t words
+
+-- and a run for words that has no holes makes them a string of its tree
+abbrev pub RunGivesString : Type 0
+RunGivesString = (a : Abstract) (c : Concrete) (cat : ℕ) (words : List (List ℕ)) (r : Run) → AreOfFunctions a c
+    → IsRunFor c cat words r → holes_of r ≡ [] → IsStringOf a c cat (tree_of a c r) words
 
 -- each hole has one type
 abbrev pub HaveOneType : HoleTypes → Type 0

@@ -368,18 +368,32 @@ abbrev pub listed : {A : Type 0} → List A → List A
 listed xs = drop 2 xs
 
 abbrev pub concrete_fields : Concrete → ConcreteFields
-concrete_fields c =
-    (with_length c.name, (map info_fields (listed c.infos), ((length c.prods, map production_fields c.prods),
-    ((length c.defs, map def_fields c.defs), (length c.refs, map ref_fields c.refs)))))
+concrete_fields c = (
+  with_length c.name,
+  (
+    map info_fields (listed c.infos),
+    (
+      (length c.prods, map production_fields c.prods),
+      ((length c.defs, map def_fields c.defs), (length c.refs, map ref_fields c.refs)),
+    ),
+  ),
+)
 
 abbrev pub heading_fields : Abstract → Heading
 heading_fields a =
     (codes "GFPT", (1, (with_length a.name, (a.start, (length (listed a.cats), length a.funs)))))
 
 abbrev pub fields_of : Abstract → List Concrete → FileFields
-fields_of a cs =
-    (heading_fields a, (map (category_fields a.funs) (listed a.cats), (map (function_fields a.funs) a.funs,
-    (length cs, map concrete_fields cs))))
+fields_of a cs = (
+  heading_fields a,
+  (
+    map (category_fields a.funs) (listed a.cats),
+    (
+      map (function_fields a.funs) a.funs,
+      (length cs, map concrete_fields cs),
+    ),
+  ),
+)
 
 -- the bytes of a grammar
 abbrev pub file_bytes : Abstract → List Concrete → List ℕ

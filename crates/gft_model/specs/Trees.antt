@@ -2,7 +2,7 @@
 use Rattle.std.specs.Prelude.{◌≡◌, ℕ, List, []}
 use Rattle.gft_core.specs.declared.tree.Tree.{Tree, out-Tree}
 use Rattle.gft_core.specs.declared.tree.Tree.TheOpen as layer
-pub use Rattle.gft_tree.specs.Trees.{Printed, printed, text_of, depth_of, all_of, holes_step, holes_of, filled_step, filled, IsInstance, child_at, subtree_of, subtree_at}
+pub use Rattle.gft_tree.specs.Trees.{Printed, printed, text_of, depth_step, depth_of, all_of, holes_step, holes_of, filled_step, filled, IsInstance, child_at, subtree_of, subtree_at}
 
 -- the tree is the function f applied to the trees ts
 abbrev pub IsApplication : Tree → List ℕ → List Tree → Type 0

@@ -1,5 +1,5 @@
 //! Laws of the definitions. Each function does nothing; its clause is the law.
-ghost use Rattle.gft_model.specs.Laws.{CutCoversTree, ListedCoversTree, SolutionIsUnique, ErasedIsString, YieldIsDetermined, NonterminalIsDetermined, ValueIsOfRun, RunGivesValue, TypeIsDetermined, TypedHasSkeletonType, FlawedIsNoType, FieldsAreReadAgain, GrammarHasNoFault, FaultIsDetermined};
+ghost use Rattle.gft_model.specs.Laws.{CutCoversTree, ListedCoversTree, SolutionIsUnique, ErasedIsString, YieldIsDetermined, NonterminalIsDetermined, ValueIsOfRun, RunGivesValue, StringIsOfRun, RunGivesString, TypeIsDetermined, TypedHasSkeletonType, FlawedIsNoType, FieldsAreReadAgain, GrammarHasNoFault, FaultIsDetermined};
 
 /// The solution of a pattern is unique: it fixes the numbers of its holes too.
 pub fn solution_is_unique()
@@ -30,6 +30,17 @@ pub fn value_is_of_run()
 /// A run without holes gives its components to its tree, where each production is of a function.
 pub fn run_gives_value()
     ensures { RunGivesValue }
+{}
+
+/// A string of a closed tree is what some run of the tree yields.
+pub fn string_is_of_run()
+    ensures { StringIsOfRun }
+{}
+
+/// The words that a run without holes is for are a string of its tree, where each production is of a
+/// function.
+pub fn run_gives_string()
+    ensures { RunGivesString }
 {}
 
 /// A tree has at most one type, where functions are told apart by their names and each hole has one type.

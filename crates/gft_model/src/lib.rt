@@ -7,8 +7,8 @@ mod sources;
 pub use laws::{
     cut_covers_tree, erased_is_string, fault_is_determined, fields_are_read_again,
     flawed_is_no_type, grammar_has_no_fault, listed_covers_tree, nonterminal_is_determined,
-    run_gives_value, solution_is_unique, type_is_determined, typed_has_skeleton_type,
-    value_is_of_run, yield_is_determined,
+    run_gives_string, run_gives_value, solution_is_unique, string_is_of_run, type_is_determined,
+    typed_has_skeleton_type, value_is_of_run, yield_is_determined,
 };
 pub use sources::{
     alternatives_in_order, found_type_is_determined, meaning_is_determined, no_variants,

@@ -1,0 +1,144 @@
+-- What makes a grammar, and the flaws of two that make none.
+use Rattle.std.specs.Prelude.{◌≡◌, ℕ, true, false, All, List, [], ◌∷◌, codes, take}
+use Rattle.std.proofs.Common.{refl, arith}
+use Rattle.std.specs.Str.{is_utf8, chars}
+use lib.Utf8
+use Rattle.ucd_derived.specs.Binary.{is_xid_start, is_xid_continue}
+use Rattle.ucd_derived.specs.XidStartRanges.{xid_start_ranges}
+use Rattle.ucd_derived.specs.XidContinueRanges.{xid_continue_ranges}
+use Rattle.ucd_table.specs.Rows.{in_ranges}
+use Rattle.gft_core.specs.declared.symbol.Sym.TheVariants.{Tok, Arg}
+use Rattle.gft_pmcfg.specs.declared.signature.AType.{AType}
+use Rattle.gft_pmcfg.specs.declared.signature.Cat.{Cat}
+use Rattle.gft_pmcfg.specs.declared.signature.Abstract.{Abstract}
+use Rattle.gft_rules.specs.declared.rule.Rule.TheVariants.{BadOrder}
+use Rattle.gft_model.specs.Typing.{HoleTypes, IsType, IsCategoryTyped, IsFunctionTyped, HasTypes, none}
+use Rattle.gft_model.specs.Flaws.{arity, unproductive, here, too_few}
+use Rattle.gft_model.specs.Runs as runs
+use Rattle.gft_model.specs.Runs.{IsKept, MayBeHole}
+use Rattle.gft_model.specs.Fields.{Fits}
+use Rattle.gft_model.specs.PortableFile.{FunctionFields, heading, symbol, concrete, file, file_bytes, heading_fields, function_fields, concrete_fields, fields_of, listed}
+use Rattle.gft_model.specs.Reading.{IsGrammar, IsReduced, HasFault, of_field, IsFlawed, of_category, of_production}
+use Rattle.gft_model.proofs.RunLemmas.{all_none, all_one, all_from}
+use Rattle.gft_model.proofs.Tiny.{abs, eng}
+use Rattle.gft_model.proofs.Grammars.{dead, barren_eng}
+use Rattle.gft_model.proofs.KeptExamples.{f_not_kept}
+
+-- the fields of T
+heading_fits : Fits heading (heading_fields abs)
+unfolding is_utf8 chars lib.Utf8.encode is_xid_start is_xid_continue xid_start_ranges xid_continue_ranges in_ranges
+heading_fits = (
+  (refl, refl),
+  ((omega arith, refl), ((omega arith, (refl, refl)), (omega arith, (((omega arith, refl), refl), omega arith)))),
+)
+
+abbrev only_function : List FunctionFields
+only_function = function_fields abs.funs (record { name = codes "a"; args = []; result = record { cat = 2; args = [] } }) ∷ []
+
+word_fits : Fits (symbol []) (Tok (codes "a"))
+unfolding is_utf8 chars lib.Utf8.encode is_xid_start is_xid_continue xid_start_ranges xid_continue_ranges in_ranges
+word_fits = ((omega arith, refl), (refl, (omega arith, (refl, refl))))
+
+component_fits : Fits (symbol (1 ∷ [])) (Arg 0 0)
+component_fits = ((omega arith, refl), (refl, ((omega arith, refl), (omega arith, refl))))
+
+concrete_fits : Fits (concrete 1 only_function) (concrete_fields eng)
+unfolding is_utf8 chars lib.Utf8.encode is_xid_start is_xid_continue xid_start_ranges xid_continue_ranges in_ranges
+concrete_fits = (
+  (omega arith, (refl, refl)),
+  (
+    (((omega arith, refl), (omega arith, refl)), refl),
+    (
+      (omega arith, ((((omega arith, refl), (refl, ((omega arith, refl), ((omega arith, (word_fits, refl)), refl)))), refl), refl)),
+      (
+        (omega arith, ((((omega arith, refl), ((omega arith, (component_fits, refl)), refl)), refl), refl)),
+        (omega arith, ((((omega arith, refl), (omega arith, (component_fits, refl))), refl), refl)),
+      ),
+    ),
+  ),
+)
+
+fields : Fits file (fields_of abs (eng ∷ []))
+unfolding is_utf8 chars lib.Utf8.encode is_xid_start is_xid_continue xid_start_ranges xid_continue_ranges in_ranges
+fields = (
+  heading_fits,
+  (
+    ((((omega arith, (refl, refl)), (omega arith, refl)), refl), refl),
+    (
+      ((((omega arith, (refl, refl)), (omega arith, (refl, ((omega arith, refl), (omega arith, refl))))), refl), refl),
+      (omega arith, ((concrete_fits, refl), refl)),
+    ),
+  ),
+)
+
+-- its types are well formed, and its production is kept
+only_s : IsType abs [] (record { cat = 2; args = [] })
+only_s = record { category = record { name = codes "S"; context = [] }; numbered = refl; indices = none }
+
+types : HasTypes abs
+types = (
+  all_from (IsCategoryTyped abs) abs.cats (tt, (tt, (tt, tt))),
+  all_from (IsFunctionTyped abs) abs.funs ((only_s, tt), tt),
+)
+
+reduced : All IsReduced (eng ∷ [])
+reduced = all_one IsReduced eng (all_from (IsKept eng) eng.prods (([], runs.none, all_none (MayBeHole eng)), tt))
+
+tiny_is_grammar : IsGrammar abs (eng ∷ [])
+tiny_is_grammar = record { in_range = refl; fields = fields; types = types; reduced = reduced }
+
+-- two functions out of order
+abbrev of_s : AType
+of_s = record { cat = 2; args = [] }
+
+abbrev swapped : Abstract
+swapped = record {
+  name = codes "T";
+  start = 2;
+  cats = abs.cats;
+  funs = record { name = codes "b"; args = []; result = of_s } ∷ record { name = codes "a"; args = []; result = of_s } ∷ [];
+}
+
+swapped_is_no_grammar : ¬ IsGrammar swapped []
+swapped_is_no_grammar g = let wrong : false ≡ true = g.fields.1.1.0.1.0.1 in cc
+
+swapped_is_out_of_order : HasFault (file_bytes swapped []) BadOrder 51
+unfolding is_utf8 chars lib.Utf8.encode is_xid_start is_xid_continue xid_start_ranges xid_continue_ranges in_ranges
+swapped_is_out_of_order = of_field refl
+
+-- a category whose context has a type without its index: heading 25, `A` 9, `B` 17 bytes
+abbrev category : List ℕ → List AType → Cat
+category name context = record { name = name; context = context }
+
+abbrev lacking : Abstract
+lacking = record {
+  name = codes "G";
+  start = 2;
+  cats = category (codes "Int") [] ∷ category (codes "String") [] ∷ category (codes "A") []
+      ∷ category (codes "B") (of_s ∷ []) ∷ category (codes "C") (record { cat = 3; args = [] } ∷ []) ∷ [];
+  funs = [];
+}
+
+plain_typed : IsType lacking [] of_s
+plain_typed = record { category = category (codes "A") []; numbered = refl; indices = none }
+
+lacks_index : IsFlawed lacking [] arity 51
+lacks_index = of_category 2 refl
+    (all_from (IsCategoryTyped lacking) (take 2 (listed lacking.cats)) (tt, ((plain_typed, tt), tt)))
+    (here (record { category = category (codes "B") (of_s ∷ []); numbered = refl; indices = too_few }))
+
+-- a production that is not kept: heading 28, categories 18, functions 67, their number 4, name 13, categories 16, number 4
+of_d : {T : HoleTypes} → IsType dead T (record { cat = 2; args = [] })
+of_d = record { category = category (codes "D") []; numbered = refl; indices = none }
+
+of_dead_s : {T : HoleTypes} → IsType dead T (record { cat = 3; args = [] })
+of_dead_s = record { category = category (codes "S") []; numbered = refl; indices = none }
+
+dead_types : HasTypes dead
+dead_types = (
+  all_from (IsCategoryTyped dead) dead.cats (tt, (tt, (tt, (tt, tt)))),
+  all_from (IsFunctionTyped dead) dead.funs ((of_d, (of_dead_s, tt)), ((of_d, (of_d, tt)), ((of_dead_s, tt), tt))),
+)
+
+barren_is_flawed : IsFlawed dead (barren_eng ∷ []) unproductive 150
+barren_is_flawed = of_production 0 0 dead_types refl (all_none IsReduced) refl (all_none (IsKept barren_eng)) f_not_kept
