@@ -17,8 +17,8 @@ use Rattle.gft_model.specs.Flaws.{arity, unproductive, here, too_few}
 use Rattle.gft_model.specs.Runs as runs
 use Rattle.gft_model.specs.Runs.{IsKept, MayBeHole}
 use Rattle.gft_model.specs.Fields.{Fits}
-use Rattle.gft_model.specs.PortableFile.{FunctionFields, heading, symbol, concrete, file, file_bytes, heading_fields, function_fields, concrete_fields, fields_of, listed}
-use Rattle.gft_model.specs.Reading.{IsGrammar, IsReduced, HasFault, of_field, IsFlawed, of_category, of_production}
+use Rattle.gft_model.specs.FileForms.{FunctionFields, heading, symbol, concrete, file}
+use Rattle.gft_model.specs.PortableFile.{file_bytes, heading_fields, function_fields, concrete_fields, fields_of, listed, IsGrammar, IsReduced, HasFault, of_field, IsFlawed, of_category, of_production}
 use Rattle.gft_model.proofs.RunLemmas.{all_none, all_one, all_from}
 use Rattle.gft_model.proofs.Tiny.{abs, eng}
 use Rattle.gft_model.proofs.Grammars.{dead, barren_eng}

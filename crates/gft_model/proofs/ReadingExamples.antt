@@ -10,8 +10,8 @@ use Rattle.ucd_table.specs.Rows.{in_ranges}
 use Rattle.gft_rules.specs.declared.rule.Rule.{Rule}
 use Rattle.gft_rules.specs.declared.rule.Rule.TheVariants.{Short, BadVersion, BadText, BadNumber, BadTag, TooLong}
 use Rattle.gft_model.specs.Fields.{outcome, got}
-use Rattle.gft_model.specs.PortableFile.{file, file_bytes, fields_of}
-use Rattle.gft_model.specs.Reading.{HasFault, of_field, after_grammar}
+use Rattle.gft_model.specs.FileForms.{file}
+use Rattle.gft_model.specs.PortableFile.{file_bytes, fields_of, HasFault, of_field, after_grammar}
 use Rattle.gft_model.proofs.Tiny.{abs, eng}
 
 abbrev tiny : List ℕ

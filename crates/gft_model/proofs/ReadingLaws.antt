@@ -7,8 +7,8 @@ use Rattle.gft_pmcfg.specs.declared.signature.Abstract.{Abstract}
 use Rattle.gft_pmcfg.specs.declared.concrete.Concrete.{Concrete}
 use Rattle.gft_pmcfg.specs.declared.grammar.Grammar.{Grammar}
 use Rattle.gft_model.specs.Fields.{Fits, got, outcome}
-use Rattle.gft_model.specs.PortableFile.{file, fields_of, file_bytes}
-use Rattle.gft_model.specs.Reading.{Reads, HasFault, of_field, after_grammar}
+use Rattle.gft_model.specs.FileForms.{file}
+use Rattle.gft_model.specs.PortableFile.{fields_of, file_bytes, Reads, HasFault, of_field, after_grammar}
 use Rattle.gft_model.proofs.FieldLaws.{read_again}
 
 -- the fields of a file are read again, and nothing is left

@@ -14,8 +14,8 @@ use Rattle.gft_model.specs.Trees.{IsClosed, IsInstance}
 use Rattle.gft_model.specs.Typing.{HoleTypes, HasType, IsType}
 use Rattle.gft_model.specs.Flaws.{Flaw, HasTypeFlaw}
 use Rattle.gft_model.specs.Fields.{Fits, outcome, got}
-use Rattle.gft_model.specs.PortableFile.{file, fields_of, file_bytes}
-use Rattle.gft_model.specs.Reading.{Reads, HasFault}
+use Rattle.gft_model.specs.FileForms.{file}
+use Rattle.gft_model.specs.PortableFile.{fields_of, file_bytes, Reads, HasFault}
 use Rattle.gft_model.specs.Skeleton.{HoleCategories, HasSkeletonType}
 use Rattle.gft_model.specs.Brackets.{Piece, erased}
 use Rattle.gft_model.specs.Runs.{Strings, IsRun, IsRef, IsRunFor, components_of, yield_of, holes_of, tree_of}

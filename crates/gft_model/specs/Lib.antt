@@ -35,6 +35,6 @@ pub mod Listing
 pub mod Sentences
 pub mod Flaws
 pub mod Fields
+pub mod FileForms
 pub mod PortableFile
-pub mod Reading
 pub mod Laws
