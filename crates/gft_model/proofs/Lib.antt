@@ -39,3 +39,4 @@ pub mod TypedTreeExamples
 pub mod KeptExamples
 pub mod NilExamples
 pub mod GrammarExamples
+pub mod CommandExamples

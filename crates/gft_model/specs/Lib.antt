@@ -38,3 +38,4 @@ pub mod Fields
 pub mod FileForms
 pub mod PortableFile
 pub mod Laws
+pub mod Commands

@@ -1,0 +1,99 @@
+-- Worked examples of command lines.
+use Rattle.std.proofs.Common.{◌≡◌, ◌≢◌, refl, sym, ap, ◌∙◌, ℕ, List, [], ◌∷◌, ◌++◌, true, false}
+use Rattle.std.specs.Prelude.{codes, bytes_eq, take, Some}
+use lib.Utf8
+use Rattle.ucd_derived.specs.Binary.{is_xid_start, is_xid_continue}
+use Rattle.ucd_derived.specs.XidStartRanges.{xid_start_ranges}
+use Rattle.ucd_derived.specs.XidContinueRanges.{xid_continue_ranges}
+use Rattle.ucd_table.specs.Rows.{in_ranges}
+use Rattle.gft_core.specs.declared.tree.Tree.TheVariants as tree
+use Rattle.gft_rules.specs.declared.rule.Rule.TheVariants.{UnknownCommand, BadOption, BadPipe}
+use Rattle.gft_tree.specs.Grammar as grammar
+use Rattle.gft_tree.specs.Lexemes as lexeme
+use Rattle.gft_tree.specs.Spelling.{Spells}
+use Rattle.gft_model.specs.Commands.{Verb, Empty, Parse, Linearize, Complete, AbstractInfo, Argument, Nothing, Words, Tree, Command, command, Read, Pipe, Refused, refusal, parts, pipes_of, argument_of, bad_option, keys_of, IsArgument, files, of_empty, to_parse, to_linearize, all, IsCalled, unknown_command, option_refused, read, read_bare, none, more, refused, AreJoined, last, next, TakesUp, ReadsPipe, pipe, bad_pipe, pipe_refused, ReadsLine}
+
+-- a semicolon in quotes does not cut, behind an escaped quote neither
+quotes : parts 59 (codes "p \"a;\\\";b\" ; e") ≡ codes "p \"a;\\\";b\" " ∷ codes " e" ∷ []
+quotes = refl
+
+-- a bar cuts a pipe, and an open quote goes on to the end of the line
+bars : parts 124 (codes "p \"a|b\"|l \"c|") ≡ codes "p \"a|b\"" ∷ codes "l \"c|" ∷ []
+bars = refl
+
+-- blank pipes are left out
+blank : pipes_of (codes "  ; e ;") ≡ codes " e " ∷ []
+blank = refl
+
+-- a comment is one at the line's first byte alone
+comment : pipes_of (codes "-- e") ≡ []
+comment = refl
+
+no_comment : pipes_of (codes " -- x") ≢ []
+no_comment e = cc
+
+-- the argument is what stands behind the options
+rest : argument_of (codes " p -lang=A  -cat=S \"a  b\" ") ≡ codes "\"a  b\""
+rest = refl
+
+-- a depth of 65 is none, and an option comes once
+depth : bad_option (keys_of Parse) (codes "-depth=64" ∷ codes "-depth=3" ∷ []) ≡ Some (codes "-depth=3")
+unfolding is_xid_start is_xid_continue xid_start_ranges xid_continue_ranges in_ranges
+depth = refl
+
+twice : bad_option (keys_of Linearize) (codes "-lang=A" ∷ codes "-cat=S" ∷ codes "-lang=B" ∷ []) ≡ Some (codes "-lang=B")
+unfolding is_xid_start is_xid_continue xid_start_ranges xid_continue_ranges in_ranges
+twice = refl
+
+-- `e`, and a name that is no command
+empties : ReadsPipe (codes " e ") (Pipe (command Empty [] Nothing ∷ []))
+empties = pipe (more (read (record { named = refl; good = refl }) of_empty) none) last
+
+unknown : ReadsPipe (codes " frob ") (Refused (refusal UnknownCommand (codes "frob" ∷ [])))
+unfolding lib.Utf8.encode
+unknown = pipe_refused (refused (unknown_command refl))
+
+-- a refused pipe stands between two others
+abbrev empty : Read
+empty = Pipe (command Empty [] Nothing ∷ [])
+
+line : ReadsLine (codes "e ; frob ; e") (empty ∷ Refused (refusal UnknownCommand (codes "frob" ∷ [])) ∷ empty ∷ [])
+line =
+    let first : ReadsPipe (codes "e ") empty = pipe (more (read (record { named = refl; good = refl }) of_empty) none) last in
+    let third : ReadsPipe (codes " e") empty = pipe (more (read (record { named = refl; good = refl }) of_empty) none) last in
+    (first, (unknown, (third, tt)))
+
+hyphens : ReadsPipe (codes " -- x") (Refused (refusal UnknownCommand (codes "--" ∷ [])))
+unfolding lib.Utf8.encode
+hyphens = pipe_refused (refused (unknown_command refl))
+
+-- a blank command beside a bar has the empty name
+blank_command : ReadsPipe (codes "| e") (Refused (refusal UnknownCommand ([] ∷ [])))
+blank_command = pipe_refused (refused (unknown_command refl))
+
+too_deep : ReadsPipe (codes "p -depth=65 \"a\"") (Refused (refusal BadOption (codes "-depth=65" ∷ [])))
+unfolding is_xid_start is_xid_continue xid_start_ranges xid_continue_ranges in_ranges lib.Utf8.encode
+too_deep = pipe_refused (refused (option_refused refl refl))
+
+-- `a` is a tree
+a_is_spelled : Spells (codes "a") (tree.App (codes "a") [])
+unfolding is_xid_start is_xid_continue xid_start_ranges xid_continue_ranges in_ranges lib.Utf8.encode
+a_is_spelled = (
+  lexeme.Word (codes "a") ∷ [],
+  lexeme.token {t = lexeme.Word (codes "a")} {cs = []} refl refl lexeme.done,
+  grammar.application (codes "a") grammar.none,
+  refl,
+)
+
+-- nothing follows on `linearize` but `parse` and `complete`
+not_joined : (argument : Argument) → ¬ AreJoined (command Linearize [] argument) (command AbstractInfo [] Nothing ∷ [])
+not_joined argument (next follows bare others) = elim follows [ ]
+
+informs : ReadsPipe (codes "l a | ai") (Refused (refusal BadPipe []))
+informs = bad_pipe (more (read (record { named = refl; good = refl }) (to_linearize a_is_spelled))
+    (more (read_bare (record { named = refl; good = refl }) refl refl) none)) (not_joined _)
+
+-- a text stands between quotes
+no_text : {text : List ℕ} {a : Argument} → text ≡ codes "a" → ¬ IsArgument Parse text a
+no_text e (to_parse inner k) = let first : true ≡ false = ap (λ cs. bytes_eq (take 1 cs) (codes "a")) (sym e ∙ k) in cc
+no_text e (files d) = elim d [ ]

@@ -1,0 +1,297 @@
+-- Command lines: how a line is cut, which commands stand in it, and what it alone breaks.
+use Rattle.std.specs.Prelude.{◌≡◌, ◌≢◌, ◌==◌, ◌&&◌, ◌||◌, ◌⊎◌, ℕ, zero, suc, ◌+◌, Bool, true, false, not, nat_le, if◌then◌else◌, List, [], ◌∷◌, ◌++◌, length, map, filter, take, drop, codes, bytes_eq, slice_index_or, All, Option, Some, None, Result, Ok, Err, encode_utf8_all}
+use Rattle.std.specs.Char.{is_whitespace}
+use Rattle.std.specs.Fmt.{decimal}
+use Rattle.std.specs.List.{AllZip, list_all, take_while}
+use Rattle.std.specs.Option.{option_map}
+use Rattle.std.specs.Str.{skip_leading_whitespace, drop_trailing_whitespace}
+use Rattle.std.specs.Str.Parse.{digits_value}
+use Rattle.gft_core.specs.Names.{spells_name}
+use Rattle.gft_core.specs.Words.{runs}
+use Rattle.gft_core.specs.declared.tree.Tree as tree
+use Rattle.gft_io.specs.Lines.{with_first}
+use Rattle.gft_rules.specs.declared.refusal.Refusal.{Refusal}
+use Rattle.gft_rules.specs.declared.rule.Rule.{Rule}
+use Rattle.gft_rules.specs.declared.rule.Rule.TheVariants.{UnknownCommand, BadOption, BadArgument, BadPipe, TreeSyntax, TreeTooDeep, BadLiteral}
+use Rattle.gft_tree.specs.declared.error.TreeErr.{TreeErr}
+use Rattle.gft_tree.specs.declared.error.TreeErr.TheVariants as fault
+use Rattle.gft_tree.specs.Faults.{IsRefused, place_of}
+use Rattle.gft_tree.specs.Lexemes.{are_digits}
+use Rattle.gft_tree.specs.Spelling.{Spells, is_canonical}
+use Rattle.gft_tree.specs.Trees.{quoted}
+
+-- the commands
+pub data Verb : Type 0 where
+  Import : Verb
+  Empty : Verb
+  Quit : Verb
+  Parse : Verb
+  Linearize : Verb
+  Complete : Verb
+  AbstractInfo : Verb
+  WritePortable : Verb
+
+-- what a command works on: nothing, file names, the words of a text, a tree, or a name
+pub data Argument : Type 0 where
+  Nothing : Argument
+  Files : List (List ℕ) → Argument
+  Words : List (List ℕ) → Argument
+  Tree : tree.Tree → Argument
+  Name : List ℕ → Argument
+
+-- a command, with the options that it has
+pub record Command : Type 0 where
+  pub verb : Verb
+  pub lang : Option (List ℕ)
+  pub cat : Option (List ℕ)
+  pub depth : Option ℕ
+  pub argument : Argument
+
+-- what a pipe is read as
+pub data Read : Type 0 where
+  Pipe : List Command → Read
+  Refused : Refusal → Read
+
+-- a refusal without a place
+abbrev pub refusal : Rule → List (List ℕ) → Refusal
+refusal rule names = record { rule = rule; place = None; names = names }
+
+-- A line is characters here, and so are its parts.
+
+abbrev mutual
+  -- the parts between separators outside quotes, of which there is one at least
+  pub parts : ℕ → List ℕ → List (List ℕ)
+  parts separator [] = [] ∷ []
+  parts separator (c ∷ cs) =
+      if c == separator then [] ∷ parts separator cs
+      else with_first c (if c == 34 then quoted_parts separator cs else parts separator cs)
+
+  -- the same from within quotes
+  pub quoted_parts : ℕ → List ℕ → List (List ℕ)
+  quoted_parts separator [] = [] ∷ []
+  quoted_parts separator (c ∷ cs) = with_first c
+      (if c == 34 then parts separator cs else if c == 92 then kept_parts separator cs else quoted_parts separator cs)
+
+  -- the same from behind a backslash within quotes, which keeps the next character there
+  pub kept_parts : ℕ → List ℕ → List (List ℕ)
+  kept_parts separator [] = [] ∷ []
+  kept_parts separator (c ∷ cs) = with_first c (quoted_parts separator cs)
+
+-- white space alone
+abbrev pub is_blank : List ℕ → Bool
+is_blank cs = list_all is_whitespace cs
+
+-- a line that begins with two hyphens
+abbrev pub is_comment : List ℕ → Bool
+is_comment line = bytes_eq (take 2 line) (codes "--")
+
+-- the pipes of a line, between semicolons, that are not blank; a comment has none
+abbrev pub pipes_of : List ℕ → List (List ℕ)
+pipes_of line = if is_comment line then [] else filter (λ pipe. not (is_blank pipe)) (parts 59 line)
+
+-- the commands of a pipe, between bars
+abbrev pub commands_of : List ℕ → List (List ℕ)
+commands_of pipe = parts 124 pipe
+
+-- what stands after the first word
+abbrev pub after_word : List ℕ → List ℕ
+after_word [] = []
+after_word (c ∷ cs) = if is_whitespace c then c ∷ cs else after_word cs
+
+-- what stands after so many words and white space
+abbrev pub after_words : ℕ → List ℕ → List ℕ
+after_words zero cs = skip_leading_whitespace cs
+after_words (suc n) cs = after_words n (after_word (skip_leading_whitespace cs))
+
+abbrev pub begins_with_hyphen : List ℕ → Bool
+begins_with_hyphen word = bytes_eq (take 1 word) (codes "-")
+
+-- the first word of a command, or nothing where it is blank
+abbrev pub name_of : List ℕ → List ℕ
+name_of text = slice_index_or (runs is_whitespace text) 0 []
+
+-- the words after the name that begin with a hyphen, up to the first that does not
+abbrev pub options_of : List ℕ → List (List ℕ)
+options_of text = take_while begins_with_hyphen (drop 1 (runs is_whitespace text))
+
+-- the trimmed rest
+abbrev pub argument_of : List ℕ → List ℕ
+argument_of text = drop_trailing_whitespace (after_words (1 + length (options_of text)) text)
+
+-- the names of the commands
+abbrev pub verbs : List (List ℕ × Verb)
+verbs =
+    (codes "import", Import) ∷ (codes "i", Import) ∷ (codes "empty", Empty) ∷ (codes "e", Empty)
+    ∷ (codes "quit", Quit) ∷ (codes "q", Quit) ∷ (codes "parse", Parse) ∷ (codes "p", Parse)
+    ∷ (codes "linearize", Linearize) ∷ (codes "l", Linearize) ∷ (codes "complete", Complete)
+    ∷ (codes "abstract_info", AbstractInfo) ∷ (codes "ai", AbstractInfo) ∷ (codes "write_portable", WritePortable) ∷ []
+
+abbrev pub verb_in : List (List ℕ × Verb) → List ℕ → Option Verb
+verb_in [] name = None
+verb_in (row ∷ rows) name = if bytes_eq row.0 name then Some row.1 else verb_in rows name
+
+-- the command of a text, by its name
+abbrev pub verb_of : List ℕ → Option Verb
+verb_of text = verb_in verbs (name_of text)
+
+-- the options that a command takes, as they begin
+abbrev pub keys_of : Verb → List (List ℕ)
+keys_of Import = []
+keys_of Empty = []
+keys_of Quit = []
+keys_of Parse = codes "-lang=" ∷ codes "-cat=" ∷ codes "-depth=" ∷ []
+keys_of Linearize = codes "-lang=" ∷ codes "-cat=" ∷ []
+keys_of Complete = codes "-lang=" ∷ codes "-cat=" ∷ []
+keys_of AbstractInfo = []
+keys_of WritePortable = []
+
+-- what stands after a beginning, where the text begins so
+abbrev pub value_after : List ℕ → List ℕ → Option (List ℕ)
+value_after [] cs = Some cs
+value_after (k ∷ ks) [] = None
+value_after (k ∷ ks) (c ∷ cs) = if k == c then value_after ks cs else None
+
+-- digits without a leading zero
+abbrev pub is_decimal : List ℕ → Bool
+is_decimal ds = are_digits ds && is_canonical ds
+
+-- a depth is a canonical decimal from 1 to 64; a language and a category are identifiers
+abbrev pub is_depth : List ℕ → Bool
+is_depth value = is_decimal value && nat_le 1 (digits_value 10 value) && nat_le (digits_value 10 value) 64
+
+abbrev pub is_value : List ℕ → List ℕ → Bool
+is_value key value = if bytes_eq key (codes "-depth=") then is_depth value else spells_name value
+
+-- the word is the option with a good value
+abbrev pub is_option : List ℕ → List ℕ → Bool
+is_option word key = elim (value_after key word) [ None ↦ false | Some value ↦ is_value key value ]
+
+-- the first word that is none of the options that may still come; each comes once
+abbrev pub bad_option : List (List ℕ) → List (List ℕ) → Option (List ℕ)
+bad_option keys [] = None
+bad_option keys (word ∷ words) =
+    elim (filter (is_option word) keys) [
+      | [] ↦ Some word
+      | key ∷ others ↦ bad_option (filter (λ k. not (bytes_eq k key)) keys) words
+    ]
+
+-- the value of an option among the words
+abbrev pub value_in : List ℕ → List (List ℕ) → Option (List ℕ)
+value_in key [] = None
+value_in key (word ∷ words) = elim (value_after key word) [ Some value ↦ Some value | None ↦ value_in key words ]
+
+-- the command with its options
+abbrev pub command : Verb → List (List ℕ) → Argument → Command
+command verb options argument = record {
+  verb = verb;
+  lang = option_map encode_utf8_all (value_in (codes "-lang=") options);
+  cat = option_map encode_utf8_all (value_in (codes "-cat=") options);
+  depth = option_map (digits_value 10) (value_in (codes "-depth=") options);
+  argument = argument;
+}
+
+-- the words of characters
+abbrev pub words_in : List ℕ → List (List ℕ)
+words_in cs = map encode_utf8_all (runs is_whitespace cs)
+
+-- the name ends so
+abbrev pub EndsIn : List ℕ → List ℕ → Type 0
+EndsIn ending name = (base : List ℕ) × (name ≡ base ++ ending)
+
+-- a file that can be imported: a source or a portable file
+abbrev pub source_ending : List ℕ
+source_ending = codes ".gf"
+
+abbrev pub portable_ending : List ℕ
+portable_ending = codes ".gft"
+
+abbrev pub IsFileName : List ℕ → Type 0
+IsFileName name = EndsIn source_ending name ⊎ EndsIn portable_ending name
+
+-- the file names of a command are of its form
+pub data AreFileNames : Verb → List (List ℕ) → Type 0 where
+  of_import : {name : List ℕ} {names : List (List ℕ)} → All IsFileName (name ∷ names) → AreFileNames Import (name ∷ names)
+  of_write_portable : {name : List ℕ} → EndsIn portable_ending name → AreFileNames WritePortable (name ∷ [])
+
+-- what a text says as the argument of a command of that form
+pub data IsArgument : Verb → List ℕ → Argument → Type 0 where
+  files : {verb : Verb} {text : List ℕ} → AreFileNames verb (words_in text) → IsArgument verb text (Files (words_in text))
+  of_empty : IsArgument Empty [] Nothing
+  of_quit : IsArgument Quit [] Nothing
+  to_parse : {text : List ℕ} (inner : List ℕ) → text ≡ quoted inner → IsArgument Parse text (Words (words_in inner))
+  to_complete : {text : List ℕ} (inner : List ℕ) → text ≡ quoted inner → IsArgument Complete text (Words (words_in inner))
+  to_linearize : {text : List ℕ} {t : tree.Tree} → Spells text t → IsArgument Linearize text (Tree t)
+  by_name : {text : List ℕ} → spells_name text ≡ true → IsArgument AbstractInfo text (Name (encode_utf8_all text))
+  all : IsArgument AbstractInfo [] Nothing
+
+-- the rule of a fault of a tree; want of memory is no fault of a text
+abbrev pub tree_rule : TreeErr → Rule
+tree_rule (fault.Syntax at) = TreeSyntax
+tree_rule (fault.TooDeep at) = TreeTooDeep
+tree_rule (fault.BadLiteral at) = BadLiteral
+tree_rule fault.NoMemory = TreeSyntax
+
+-- the refusal of a text that is no argument of the command: the first fault of a tree, with its offset in bytes
+pub data HasBadArgument : Verb → List ℕ → Refusal → Type 0 where
+  of_tree : {text : List ℕ} {e : TreeErr} → IsRefused text e
+      → HasBadArgument Linearize text (refusal (tree_rule e) (decimal (place_of e) ∷ []))
+  other : {verb : Verb} {text : List ℕ} → verb ≢ Linearize → ((a : Argument) → ¬ IsArgument verb text a)
+      → HasBadArgument verb text (refusal BadArgument [])
+
+-- the command of a text, all of whose options are good
+pub record IsCalled (text : List ℕ) (verb : Verb) : Type 0 where
+  pub named : verb_of text ≡ Some verb
+  pub good : bad_option (keys_of verb) (options_of text) ≡ None
+
+-- what the text of a command is read as: the command, or its first refusal; a later command of its pipe may have no argument
+pub data ReadsCommand (later : Bool) (text : List ℕ) : Result Command Refusal → Type 0 where
+  unknown_command : verb_of text ≡ None
+      → ReadsCommand later text (Err (refusal UnknownCommand (encode_utf8_all (name_of text) ∷ [])))
+  option_refused : {verb : Verb} {word : List ℕ} → verb_of text ≡ Some verb
+      → bad_option (keys_of verb) (options_of text) ≡ Some word
+      → ReadsCommand later text (Err (refusal BadOption (encode_utf8_all word ∷ [])))
+  argument_refused : {verb : Verb} {r : Refusal} → IsCalled text verb → (later ≡ true → argument_of text ≢ [])
+      → HasBadArgument verb (argument_of text) r → ReadsCommand later text (Err r)
+  read : {verb : Verb} {a : Argument} → IsCalled text verb → IsArgument verb (argument_of text) a
+      → ReadsCommand later text (Ok (command verb (options_of text) a))
+  read_bare : {verb : Verb} → IsCalled text verb → later ≡ true → argument_of text ≡ []
+      → ReadsCommand later text (Ok (command verb (options_of text) Nothing))
+
+-- each gives what R says, in order, up to the first refusal
+pub data InTurn {A B : Type 0} (R : A → Result B Refusal → Type 0) : List A → Result (List B) Refusal → Type 0 where
+  none : InTurn R [] (Ok [])
+  more : {x : A} {xs : List A} {y : B} {ys : List B} → R x (Ok y) → InTurn R xs (Ok ys) → InTurn R (x ∷ xs) (Ok (y ∷ ys))
+  refused : {x : A} {xs : List A} {r : Refusal} → R x (Err r) → InTurn R (x ∷ xs) (Err r)
+  refused_later : {x : A} {xs : List A} {y : B} {r : Refusal} → R x (Ok y) → InTurn R xs (Err r) → InTurn R (x ∷ xs) (Err r)
+
+-- the texts with whether each is a later one
+abbrev pub in_pipe : List (List ℕ) → List (Bool × List ℕ)
+in_pipe [] = []
+in_pipe (text ∷ texts) = (false, text) ∷ map (λ t. (true, t)) texts
+
+-- the commands of a pipe, or the first refusal from left to right
+abbrev pub ReadsCommands : List ℕ → Result (List Command) Refusal → Type 0
+ReadsCommands pipe = InTurn (λ c. ReadsCommand c.0 c.1) (in_pipe (commands_of pipe))
+
+-- a command takes up what the one before it in a pipe hands on: trees, or texts
+pub data TakesUp : Verb → Verb → Type 0 where
+  trees : TakesUp Parse Linearize
+  texts : TakesUp Linearize Parse
+  last_texts : TakesUp Linearize Complete
+
+-- so does each later command, without an argument of its own
+pub data AreJoined : Command → List Command → Type 0 where
+  last : {c : Command} → AreJoined c []
+  next : {c d : Command} {cs : List Command} → TakesUp c.verb d.verb → d.argument ≡ Nothing → AreJoined d cs
+      → AreJoined c (d ∷ cs)
+
+-- what the text of a pipe is read as
+pub data ReadsPipe (text : List ℕ) : Read → Type 0 where
+  pipe : {c : Command} {cs : List Command} → ReadsCommands text (Ok (c ∷ cs)) → AreJoined c cs → ReadsPipe text (Pipe (c ∷ cs))
+  bad_pipe : {c : Command} {cs : List Command} → ReadsCommands text (Ok (c ∷ cs)) → ¬ AreJoined c cs
+      → ReadsPipe text (Refused (refusal BadPipe []))
+  pipe_refused : {r : Refusal} → ReadsCommands text (Err r) → ReadsPipe text (Refused r)
+
+-- what the characters of a line are read as: each of its pipes, in order
+abbrev pub ReadsLine : List ℕ → List Read → Type 0
+ReadsLine line = AllZip ReadsPipe (pipes_of line)
