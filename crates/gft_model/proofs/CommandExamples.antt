@@ -1,5 +1,5 @@
 -- Worked examples of command lines.
-use Rattle.std.proofs.Common.{◌≡◌, ◌≢◌, refl, sym, ap, ◌∙◌, ℕ, List, [], ◌∷◌, ◌++◌, true, false}
+use Rattle.std.proofs.Common.{◌≡◌, ◌≢◌, refl, sym, ap, ◌∙◌, ℕ, List, [], ◌∷◌, true, false}
 use Rattle.std.specs.Prelude.{codes, bytes_eq, take, Some}
 use lib.Utf8
 use Rattle.ucd_derived.specs.Binary.{is_xid_start, is_xid_continue}
@@ -11,7 +11,7 @@ use Rattle.gft_rules.specs.declared.rule.Rule.TheVariants.{UnknownCommand, BadOp
 use Rattle.gft_tree.specs.Grammar as grammar
 use Rattle.gft_tree.specs.Lexemes as lexeme
 use Rattle.gft_tree.specs.Spelling.{Spells}
-use Rattle.gft_model.specs.Commands.{Verb, Empty, Parse, Linearize, Complete, AbstractInfo, Argument, Nothing, Words, Tree, Command, command, Read, Pipe, Refused, refusal, parts, pipes_of, argument_of, bad_option, keys_of, IsArgument, files, of_empty, to_parse, to_linearize, all, IsCalled, unknown_command, option_refused, read, read_bare, none, more, refused, AreJoined, last, next, TakesUp, ReadsPipe, pipe, bad_pipe, pipe_refused, ReadsLine}
+use Rattle.gft_model.specs.Commands.{Empty, Parse, Linearize, AbstractInfo, Argument, Nothing, command, Read, Pipe, Refused, refusal, parts, pipes_of, argument_of, bad_option, keys_of, IsArgument, files, of_empty, to_parse, to_linearize, unknown_command, option_refused, read, read_bare, none, more, refused, AreJoined, last, next, ReadsPipe, pipe, bad_pipe, pipe_refused, ReadsLine}
 
 -- a semicolon in quotes does not cut, behind an escaped quote neither
 quotes : parts 59 (codes "p \"a;\\\";b\" ; e") ≡ codes "p \"a;\\\";b\" " ∷ codes " e" ∷ []
@@ -54,10 +54,10 @@ unfolding lib.Utf8.encode
 unknown = pipe_refused (refused (unknown_command refl))
 
 -- a refused pipe stands between two others
-abbrev empty : Read
+abbrev pub empty : Read
 empty = Pipe (command Empty [] Nothing ∷ [])
 
-line : ReadsLine (codes "e ; frob ; e") (empty ∷ Refused (refusal UnknownCommand (codes "frob" ∷ [])) ∷ empty ∷ [])
+pub line : ReadsLine (codes "e ; frob ; e") (empty ∷ Refused (refusal UnknownCommand (codes "frob" ∷ [])) ∷ empty ∷ [])
 line =
     let first : ReadsPipe (codes "e ") empty = pipe (more (read (record { named = refl; good = refl }) of_empty) none) last in
     let third : ReadsPipe (codes " e") empty = pipe (more (read (record { named = refl; good = refl }) of_empty) none) last in

@@ -21,5 +21,5 @@ bytes : file_bytes abs (eng ∷ []) ≡
     ∷ 0 ∷ 0 ∷ 0 ∷ 1 ∷ 0 ∷ 0 ∷ 0 ∷ 2 ∷ 0 ∷ 0 ∷ 0 ∷ 1 ∷ 1 ∷ 0 ∷ 0 ∷ 0 ∷ 0 ∷ 0 ∷ 0 ∷ 0 ∷ 0 ∷ []
 bytes = refl
 
-count : length (file_bytes abs (eng ∷ [])) ≡ 133
+pub count : length (file_bytes abs (eng ∷ [])) ≡ 133
 count = refl

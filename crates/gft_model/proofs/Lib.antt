@@ -40,3 +40,8 @@ pub mod KeptExamples
 pub mod NilExamples
 pub mod GrammarExamples
 pub mod CommandExamples
+pub mod ShellExamples
+pub mod InfoExamples
+pub mod LinearizeExamples
+pub mod OutputExamples
+pub mod ReplyExamples

@@ -21,13 +21,13 @@ use Rattle.gft_model.proofs.RunLemmas.{gives, no_values}
 use Rattle.gft_model.proofs.Grammars.{dead, dead_eng, whole}
 
 -- the language of S
-abbrev language : Language
+abbrev pub language : Language
 language t b = IsBracketedString dead dead_eng 3 t b
 
-abbrev h : Tree
+abbrev pub h : Tree
 h = App (codes "h") []
 
-abbrev h_gives : Strings
+abbrev pub h_gives : Strings
 h_gives = applied [] [] ((Tok (codes "yes") ∷ []) ∷ [])
 
 h_is_s : HasSkeletonType dead [] h 3
@@ -36,7 +36,7 @@ h_is_s = application (2, omega arith, refl) (outs-App _ _) none
 h_is_no_hole : (k : ℕ) → ¬ IsHole h k
 h_is_no_hole k e = let layers = outs-App (codes "h") [] in cc
 
-h_string : language h (filled (h_gives ∷ []) whole)
+pub h_string : language h (filled (h_gives ∷ []) whole)
 h_string = record {
   nonterminal = 3;
   components = h_gives;
@@ -47,10 +47,10 @@ h_string = record {
   string = refl;
 }
 
-yes_is_sentence : IsSentence dead language 3 (codes "yes" ∷ [])
+pub yes_is_sentence : IsSentence dead language 3 (codes "yes" ∷ [])
 yes_is_sentence = record { tree = h; of_category = h_is_s; string = _; of_tree = h_string; words_are = refl }
 
-yes_is_next : IsNext dead language 3 [] (a_word (codes "yes"))
+pub yes_is_next : IsNext dead language 3 [] (a_word (codes "yes"))
 yes_is_next = record {
   tree = h;
   of_category = h_is_s;
@@ -85,7 +85,7 @@ no_arguments none e = refl
 no_arguments (more d ds) e = cc
 
 -- the only closed tree of S is `h`
-only_h : {t : Tree} {c : ℕ} → HasSkeletonType dead [] t c → c ≡ 3 → IsApplication t (codes "h") []
+pub only_h : {t : Tree} {c : ℕ} → HasSkeletonType dead [] t c → c ≡ 3 → IsApplication t (codes "h") []
 only_h (hole h b (k, l, m)) e = absurd (omega (arith, l))
 only_h (integer h b) e = absurd (omega (arith, e))
 only_h (text h b) e = absurd (omega (arith, e))
@@ -118,7 +118,7 @@ only_ref of_numbers = refl
 only_ref of_strings = refl
 
 -- a string of a closed tree of S is that of `h`
-only_yes : {t : Tree} {b : List Piece} → HasSkeletonType dead [] t 3 → language t b
+pub only_yes : {t : Tree} {b : List Piece} → HasSkeletonType dead [] t 3 → language t b
     → b ≡ filled (h_gives ∷ []) whole
 only_yes d s =
     let g = gives (codes "h") [] (only_h d refl) s.value in
@@ -137,11 +137,11 @@ is_yes any_integer = false
 is_yes any_string = false
 
 -- the first of the marked words, or one that is none
-abbrev first_of : List (Mark × List ℕ) → Mark × List ℕ
+abbrev pub first_of : List (Mark × List ℕ) → Mark × List ℕ
 first_of ws = slice_index_or ws 0 (grammar, [])
 
 -- no words have no marks
-no_words : (ws : List (Mark × List ℕ)) → map (λ (w : Mark × List ℕ). w.1) ws ≡ [] → ws ≡ []
+pub no_words : (ws : List (Mark × List ℕ)) → map (λ (w : Mark × List ℕ). w.1) ws ≡ [] → ws ≡ []
 no_words [] e = refl
 no_words (w ∷ ws) e = cc
 

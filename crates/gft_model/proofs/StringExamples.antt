@@ -16,31 +16,31 @@ use Rattle.gft_model.specs.RunStrings.{HasValue, HaveValues, application, none, 
 use Rattle.gft_model.proofs.RunLemmas.{Gives, gives, only_value, no_values}
 use Rattle.gft_model.proofs.Grammars.{twice, twice_eng, whole}
 
-abbrev a : Tree
+abbrev pub a : Tree
 a = App (codes "A") []
 
-abbrev dup_a : Tree
+abbrev pub dup_a : Tree
 dup_a = App (codes "Dup") (a ∷ [])
 
 -- a value of `A` at a position: one of its two words
-abbrev word_at : List ℕ → List ℕ → Strings
+abbrev pub word_at : List ℕ → List ℕ → Strings
 word_at p w = applied p [] ((Tok w ∷ []) ∷ [])
 
-a_is_a : (p : List ℕ) → HasValue twice twice_eng p a 3 (word_at p (codes "a"))
+pub a_is_a : (p : List ℕ) → HasValue twice twice_eng p a 3 (word_at p (codes "a"))
 a_is_a p = application (outs-App _ _) (0, omega arith, refl) refl none
 
-a_is_b : (p : List ℕ) → HasValue twice twice_eng p a 3 (word_at p (codes "b"))
+pub a_is_b : (p : List ℕ) → HasValue twice twice_eng p a 3 (word_at p (codes "b"))
 a_is_b p = application (outs-App _ _) (1, omega arith, refl) refl none
 
 -- the components of `Dup A` where `A` has these
-abbrev doubled : Strings → Strings
+abbrev pub doubled : Strings → Strings
 doubled v = applied [] (v ∷ []) ((Arg 0 0 ∷ Arg 0 0 ∷ []) ∷ [])
 
 -- an application is no hole
-not_a_hole : (k : ℕ) → ¬ IsHole dup_a k
+pub not_a_hole : (k : ℕ) → ¬ IsHole dup_a k
 not_a_hole k h = let e = outs-App (codes "Dup") (a ∷ []) in cc
 
-string_with : (v : Strings) → HasValue twice twice_eng (1 ∷ []) a 3 v
+pub string_with : (v : Strings) → HasValue twice twice_eng (1 ∷ []) a 3 v
     → IsBracketedString twice twice_eng 2 dup_a (filled (doubled v ∷ []) whole)
 string_with v d = record {
   nonterminal = 2;
@@ -52,10 +52,10 @@ string_with v d = record {
   string = refl;
 }
 
-a_a_is_string : IsStringOf twice twice_eng 2 dup_a (codes "a" ∷ codes "a" ∷ [])
+pub a_a_is_string : IsStringOf twice twice_eng 2 dup_a (codes "a" ∷ codes "a" ∷ [])
 a_a_is_string = (_, string_with _ (a_is_a (1 ∷ [])), refl)
 
-b_b_is_string : IsStringOf twice twice_eng 2 dup_a (codes "b" ∷ codes "b" ∷ [])
+pub b_b_is_string : IsStringOf twice twice_eng 2 dup_a (codes "b" ∷ codes "b" ∷ [])
 b_b_is_string = (_, string_with _ (a_is_b (1 ∷ [])), refl)
 
 -- all refs of the grammar take the one component
@@ -117,7 +117,7 @@ constant_gives {p} w g e =
     g.components ∙ ap (λ (args : List Strings). applied p args g.prod.seqs) none_given
     ∙ ap (λ (q : Prod). applied p [] q.seqs) e
 
-a_gives : {p : List ℕ} {n : ℕ} {v : Strings} → HasValue twice twice_eng p a n v
+pub a_gives : {p : List ℕ} {n : ℕ} {v : Strings} → HasValue twice twice_eng p a n v
     → (v ≡ word_at p (codes "a")) ⊎ (v ≡ word_at p (codes "b"))
 a_gives {p} {n} {v} d =
     let g = gives (codes "A") [] (outs-App _ _) d in
@@ -126,7 +126,7 @@ a_gives {p} {n} {v} d =
     (of_a g.prod g.listed (named (codes "A") g.prod g.function refl g.of_function g.name))
 
 -- each string of `Dup A` doubles one value of `A`
-dup_gives : {b : List Piece} → IsBracketedString twice twice_eng 2 dup_a b
+pub dup_gives : {b : List Piece} → IsBracketedString twice twice_eng 2 dup_a b
     → (v : Strings) × HasValue twice twice_eng (1 ∷ []) a 3 v × (b ≡ filled (doubled v ∷ []) whole)
 dup_gives s =
     let g = gives (codes "Dup") (a ∷ []) (outs-App _ _) s.value in

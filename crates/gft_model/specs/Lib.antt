@@ -39,3 +39,9 @@ pub mod FileForms
 pub mod PortableFile
 pub mod Laws
 pub mod Commands
+pub mod States
+pub mod Unsolved
+pub mod AbstractInfo
+pub mod Replies
+pub mod Shell
+pub mod Output

@@ -1,0 +1,62 @@
+-- Worked examples of whole runs.
+use Rattle.std.proofs.Common.{refl, ℕ, List, [], ◌∷◌, ◌++◌, true, arith}
+use Rattle.std.specs.Prelude.{codes}
+use Rattle.std.specs.Fmt.{digits}
+use Rattle.std.specs.Str.{chars}
+use lib.Utf8
+use Rattle.gft_io.specs.Outside.{Files}
+use Rattle.gft_model.specs.Commands as commands
+use Rattle.gft_model.specs.Commands.{Quit, Nothing, Pipe, command}
+use Rattle.gft_model.specs.Output.{none, a_file, only_files, an_out, an_out_is, a_count, Mode, make, Asks, for_session, to_make, for_workload, usage_line, plain, Output, wrong_call, counted, lines, quit, next}
+use Rattle.gft_model.specs.Shell as shell
+use Rattle.gft_model.specs.States.{Sources}
+use Rattle.gft_model.proofs.ShellExamples.{quits_first}
+
+abbrev gfs : List ℕ
+gfs = codes "gfs"
+
+-- options may stand after files, and behind `--` every word is a file
+makes : Asks (gfs ∷ codes "A.gf" ∷ codes "--make=T.gft" ∷ codes "--" ∷ codes "-b.gf" ∷ [])
+    (make (codes "T.gft") (codes "A.gf" ∷ codes "-b.gf" ∷ []))
+makes = to_make (a_file refl (an_out_is only_files))
+
+-- `--make` without files is a wrong call
+no_files : {mode : Mode} → ¬ Asks (gfs ∷ codes "--make" ∷ codes "T.gft" ∷ []) mode
+no_files (for_session (a_file is d)) = cc
+no_files (to_make (a_file is d)) = cc
+no_files (to_make (an_out is d)) = elim d [ ]
+no_files (for_workload d count) = elim d [ ]
+
+usage : (S : Sources) (input : List ℕ) (files : Files)
+    → Output S (gfs ∷ codes "--make" ∷ codes "T.gft" ∷ []) input files (plain (usage_line ∷ []) files)
+usage S input files = wrong_call (λ mode asks. no_files asks)
+
+-- so is a workload of no sentence
+no_sentence : {mode : Mode} → ¬ Asks (gfs ∷ codes "--workload" ∷ codes "0" ∷ []) mode
+no_sentence (for_session (a_file is d)) = cc
+no_sentence (to_make (a_file is d)) = cc
+no_sentence (for_workload (a_count is none) count) = cc
+
+-- a workload of 200 sentences
+sentences : (S : Sources) (input : List ℕ) (files : Files) → Output S (gfs ∷ codes "--workload" ∷ codes "200" ∷ []) input files
+    (plain ((codes "sentences 200" ++ 10 ∷ codes "words 8000" ++ 10 ∷ codes "trees 3200" ++ 10 ∷ codes "same 3200" ++ 10 ∷ [])
+    ∷ []) files)
+unfolding digits
+sentences S input files = counted (for_workload (a_count refl none) refl)
+
+-- a session without files: the line behind `quit` is not answered
+short : (S : Sources) (files : Files) → Output S (gfs ∷ []) (codes "frob" ++ 10 ∷ codes "q" ++ 10 ∷ codes "e") files
+    (record {
+      replies = (codes "refused UnknownCommand: frob" ++ 10 ∷ []) ∷ [] ∷ [];
+      refused = true;
+      failures = 0;
+      files = files;
+    })
+unfolding chars lib.Utf8.encode
+short S files =
+    let frob = commands.pipe_refused (commands.refused (commands.unknown_command refl)) in
+    let ends = commands.pipe
+    (commands.more (commands.read (record { named = refl; good = refl }) commands.of_quit) commands.none) commands.last in
+    lines (for_session none)
+    (next (shell.read (omega arith) (codes "frob", (refl, refl)) (frob, tt) (shell.more shell.refused refl shell.none)) refl
+    (quit (shell.read (omega arith) (codes "q", (refl, refl)) (ends, tt) (quits_first S _ [])) refl))

@@ -1,0 +1,144 @@
+-- Worked examples of what `parse` and `complete` answer: in Dead `yes` is the one sentence.
+use Rattle.std.proofs.Common.{◌≡◌, ◌≢◌, refl, sym, ap, ◌∙◌, subst, ℕ, zero, suc, List, [], ◌∷◌, ◌++◌, true, false, arith, rules, inl, inr, ⊎_elim}
+use Rattle.std.specs.Prelude.{codes, bytes_eq, slice_index_or, Contains, AllPairs, Bool}
+use Rattle.gft_core.specs.declared.tree.Tree.{Tree, App, Hole, roll-Tree, roll-out-Tree}
+use Rattle.gft_core.specs.declared.tree.Tree.TheVariants.{outs-App, rolls-App}
+use Rattle.std.specs.Fmt.{digits}
+use Rattle.gft_pmcfg.specs.declared.signature.Fun.{Fun}
+use Rattle.gft_rules.specs.declared.rule.Rule.TheVariants.{UnknownFun}
+use Rattle.gft_model.specs.Brackets.{Piece, Mark, grammar, erased, marked}
+use Rattle.gft_model.specs.Commands.{refusal}
+use Rattle.gft_model.specs.Cut.{Cutting, cut_of, cut_step}
+use Rattle.gft_model.specs.Layers.{by_layers-App}
+use Rattle.gft_model.specs.Listing.{IsListed, IsBefore}
+use Rattle.gft_model.specs.Replies.{Item, a_tree, a_line, FailsAt, Parses, Completes, AreNext}
+use Rattle.gft_model.specs.Replies as replies
+use Rattle.gft_model.specs.Runs.{filled}
+use Rattle.gft_model.specs.Sentences.{IsSentence, IsNext, Next, a_word, next_of}
+use Rattle.gft_model.specs.Solutions.{IsSolution}
+use Rattle.gft_model.specs.Trees as trees
+use Rattle.gft_model.specs.Typing as typing
+use Rattle.gft_model.specs.Unsolved.{IsUnsolved, ComesFirst, unknown_fun, wrong}
+use Rattle.gft_model.proofs.Grammars.{dead, whole}
+use Rattle.gft_model.proofs.SentenceExamples.{language, h, h_gives, h_string, yes_is_next, only_h, only_yes, no_words, first_of}
+use Rattle.gft_model.proofs.SkeletonLaws.{skeleton}
+use Rattle.gft_model.proofs.TreeLemmas.{filled-App, holes_of-App}
+
+-- the bracketed string of `h`
+abbrev yes : List Piece
+yes = filled (h_gives ∷ []) whole
+
+-- nothing but `yes` may come first
+only_next : {n : Next} → IsNext dead language 3 [] n → a_word (codes "yes") ≡ n
+only_next s =
+    let words : marked yes ≡ s.before ++ s.here ∷ s.after = ap marked (sym (only_yes s.of_category s.of_tree)) ∙ s.parts in
+    let first : (grammar, codes "yes") ≡ s.here = ap first_of words
+    ∙ ap (λ (ws : List (Mark × List ℕ)). first_of (ws ++ s.here ∷ s.after)) (no_words s.before s.begins) in
+    ap next_of first ∙ s.is
+
+-- one word is in order
+one_in_order : {A : Type 0} (R : A → A → Type 0) (x : A) → AllPairs R (x ∷ [])
+one_in_order R x i j d l m = absurd (omega (arith, l, m))
+
+may_come : {w : List ℕ} → Contains (codes "yes" ∷ []) w → IsNext dead language 3 [] (a_word w)
+may_come (zero, b, e) = subst (λ (w : List ℕ). IsNext dead language 3 [] (a_word w)) e yes_is_next
+may_come (suc k, b, e) = absurd (omega (arith, b))
+
+-- `complete ""` gives `"yes"`
+completes : Completes dead language 3 [] (a_line (codes "\"yes\"") ∷ [])
+completes = replies.next (codes "yes" ∷ []) false false (inl refl) (record {
+  all = λ w. (may_come, λ s. let is = only_next s in (0, omega arith, cc));
+  in_order = one_in_order replies.IsBefore (codes "yes");
+  integers = (λ f. cc, λ s. let is = only_next s in cc);
+  texts = (λ f. cc, λ s. let is = only_next s in cc);
+})
+
+-- a sentence has the one word `yes`
+only_word : {words : List (List ℕ)} → IsSentence dead language 3 words → codes "yes" ∷ [] ≡ words
+only_word s = ap erased (sym (only_yes s.of_category s.of_tree)) ∙ s.words_are
+
+abbrev begins_with_yes : List (List ℕ) → Bool
+begins_with_yes ws = bytes_eq (slice_index_or ws 0 []) (codes "yes")
+
+-- `p "no"` fails at its first word
+fails : Parses dead language 3 (codes "no" ∷ []) 12 (a_line (codes "failed at word 1: \"no\"") ∷ [])
+unfolding digits
+fails = replies.Parses.failed 1 (codes "no") (record {
+  before = [];
+  after = [];
+  parts = refl;
+  is_number = refl;
+  begin = inl refl;
+  begin_not = λ e. ⊎_elim {C = ⊥} (λ n. cc) (λ r. let is : true ≡ false = ap begins_with_yes (only_word r.1) in cc) e;
+})
+
+-- `h` is the pattern of itself
+cut : cut_of h yes ≡ h
+cut = ap (λ (g : Cutting). (g [] 1).0) (by_layers-App (cut_step yes) (codes "h") [])
+
+typed : typing.HasType dead [] h (record { cat = 3; args = [] })
+typed = typing.HasType.application (2, omega arith, refl) (outs-App _ _) typing.none
+
+solved : IsSolution dead h h
+solved = record {
+  instance = (Hole, simp filled-App);
+  typed = ([], ([], record { moves = []; below = search rules; is = refl }, typing.empty), record { cat = 3; args = [] }, typed);
+  general = λ t i s. i;
+  numbered = simp holes_of-App;
+}
+
+depth : trees.depth_of h ≡ 1
+depth = simp by_layers-App
+
+listed_h : IsListed dead language 3 (codes "yes" ∷ []) 12 h
+listed_h = record {
+  tree = h;
+  indices = [];
+  typed = typed;
+  within = rw depth (omega arith);
+  string = yes;
+  of_tree = h_string;
+  words_are = refl;
+  solved = rw cut solved;
+}
+
+-- and the one that is listed
+only_listed : {p : Tree} → IsListed dead language 3 (codes "yes" ∷ []) 12 p → h ≡ p
+only_listed s =
+    let shape = skeleton s.typed in
+    let tree : h ≡ s.tree = sym (rolls-App (codes "h") []) ∙ ap roll-Tree (sym (only_h shape refl)) ∙ roll-out-Tree s.tree in
+    let string : s.string ≡ yes = only_yes shape s.of_tree in
+    let cuts : cut_of s.tree s.string ≡ h = ap (λ (t : Tree). cut_of t s.string) (sym tree) ∙ ap (cut_of h) string ∙ cut in
+    sym (s.solved.instance.1 ∙ ap (trees.filled s.solved.instance.0) cuts ∙ filled-App s.solved.instance.0 (codes "h") [])
+
+of_h : {p : Tree} → Contains (h ∷ []) p → IsListed dead language 3 (codes "yes" ∷ []) 12 p
+of_h (zero, b, e) = subst (IsListed dead language 3 (codes "yes" ∷ []) 12) e listed_h
+of_h (suc k, b, e) = absurd (omega (arith, b))
+
+-- `p "yes"` gives `h`
+parses : Parses dead language 3 (codes "yes" ∷ []) 12 (a_tree h ∷ [])
+parses = replies.listed {ts = []} (record {
+  all = λ p. (of_h, λ s. (0, omega arith, only_listed s));
+  in_order = one_in_order IsBefore h;
+})
+
+-- no function is called `nope`
+other_name : (g f : Fun) → bytes_eq g.name (codes "nope") ≡ false → g ≡ f → f.name ≢ codes "nope"
+other_name g f differs e n = let is : false ≡ true =
+    sym differs ∙ ap (λ (k : Fun). bytes_eq k.name (codes "nope")) e ∙ ap (λ m. bytes_eq m (codes "nope")) n in cc
+
+not_there : (f : Fun) → Contains dead.funs f → f.name ≢ codes "nope"
+not_there f (zero, b, e) = other_name _ f refl e
+not_there f (suc zero, b, e) = other_name _ f refl e
+not_there f (suc (suc zero), b, e) = other_name _ f refl e
+not_there f (suc (suc (suc k)), b, e) = absurd (omega (arith, b))
+
+-- the root comes first
+root_first : (q : List ℕ) (other : ℕ) → ComesFirst [] 0 q other
+root_first [] other = inr (refl, omega arith)
+root_first (i ∷ q) other = inl refl
+
+-- `l nope` is refused
+unknown : IsUnsolved dead (App (codes "nope") []) (refusal UnknownFun (codes "nope" ∷ []))
+unknown = wrong {p = []} {kind = 0} (unknown_fun (record { subtree = _; stands = refl; applies = outs-App _ _ }) not_there)
+    (λ q other s w. root_first q other)

@@ -1,0 +1,80 @@
+-- Worked examples of answers to lines.
+use Rattle.std.proofs.Common.{◌≡◌, ◌≢◌, refl, ap, List, [], ◌∷◌, ◌++◌, true, false, arith}
+use Rattle.std.specs.Prelude.{codes, Some, None, length}
+use Rattle.std.specs.FinMap.{insert}
+use Rattle.std.specs.Fmt.{digits}
+use Rattle.std.specs.Str.{chars}
+use lib.Utf8
+use Rattle.gft_pmcfg.specs.declared.grammar.Grammar.{Grammar}
+use Rattle.gft_io.specs.Outside.{Files}
+use Rattle.gft_rules.specs.declared.refusal.Refusal.{Refusal}
+use Rattle.gft_rules.specs.declared.rule.Rule.TheVariants.{NoGrammar}
+use Rattle.gft_model.specs.Commands as commands
+use Rattle.gft_model.specs.Commands.{Verb, Import, Empty, Quit, Parse, WritePortable, Argument, Nothing, Words, Read, Pipe, command, refusal, keys_of}
+use Rattle.gft_model.specs.PortableFile.{file_of}
+use Rattle.gft_model.specs.Shell.{Held, Answer, refusing, replying, no_grammar, no_language, no_such_language, no_such_category, LacksFirst, here, later, IsAlone, Does, empties, quits, writes, PipeSteps, done, lacking, AllSteps, none, last, more, read, IsAnswer}
+use Rattle.gft_model.specs.Shell as shell
+use Rattle.gft_model.specs.States.{Sources, State, StandsFor, loaded, of_file, file}
+use Rattle.gft_model.proofs.CommandExamples as lines
+use Rattle.gft_model.proofs.CommandExamples.{empty}
+use Rattle.gft_model.proofs.Tiny.{abs, eng}
+
+-- a command without options, other than those that need a grammar, lacks nothing
+lacks_nothing : {state : State} {verb : Verb} {argument : Argument} → (verb ≢ Import → verb ≢ Empty → verb ≢ Quit → ⊥)
+    → keys_of verb ≡ [] → (r : Refusal) → ¬ LacksFirst state (command verb [] argument ∷ []) r
+lacks_nothing needs keys r (here (no_grammar e i m q)) = needs i m q
+lacks_nothing needs keys r (here (no_language e i (k, b, f))) = absurd (omega (arith, b, ap length keys))
+lacks_nothing needs keys r (here (no_such_language e i l f)) = cc
+lacks_nothing needs keys r (here (no_such_category e i l f)) = cc
+lacks_nothing needs keys r (later n d) = elim d [ ]
+
+-- a command by itself
+alone : (verb : Verb) (argument : Argument) → IsAlone (command verb [] argument ∷ []) verb argument
+alone verb argument = record { command = _; are = refl; verb_is = refl; argument_is = refl }
+
+empties_alone : (S : Sources) (held : Held) → PipeSteps S held empty 0 (replying (record held { state = None }) [])
+empties_alone S held = done (lacks_nothing (λ i m q. m refl) refl) (empties (alone Empty Nothing))
+
+-- a refused pipe stands between two others, and its line is the reply
+one_refusal : (S : Sources) (held : Held) → IsAnswer S held (codes "e ; frob ; e") (record {
+  reply = codes "refused UnknownCommand: frob" ++ 10 ∷ [];
+  refused = true;
+  ends = false;
+  after = record held { state = None };
+})
+unfolding chars lib.Utf8.encode
+one_refusal S held =
+    read (omega arith) (codes "e ; frob ; e", (refl, refl)) lines.line
+    (more (empties_alone S held) refl (more shell.refused refl (more (empties_alone S _) refl none)))
+
+-- an empty session has no grammar
+nothing_to_parse : (S : Sources) (files : Files) → PipeSteps S (record { state = None; files = files })
+    (Pipe (command Parse [] (Words []) ∷ [])) 0
+    (refusing (record { state = None; files = files }) (refusal NoGrammar []) [])
+nothing_to_parse S files = lacking (here (no_grammar refl (λ e. cc) (λ e. cc) (λ e. cc)))
+
+-- nothing runs after `quit`
+pub quits_first : (S : Sources) (held : Held) (reads : List Read)
+    → AllSteps S held (Pipe (command Quit [] Nothing ∷ []) ∷ reads) 0
+    (record { reply = []; refused = false; ends = true; after = held })
+quits_first S held reads = last (done (lacks_nothing (λ i m q. q refl) refl) (quits (alone Quit Nothing))) refl
+
+-- the grammar of one sentence
+abbrev tiny : Grammar
+tiny = record { abs = abs; concretes = eng ∷ []; in_range = refl }
+
+abbrev tiny_state : State
+tiny_state = Some (record { abs = abs; languages = (codes "TE", of_file eng) ∷ [] })
+
+-- its file is written
+tiny_written : (S : Sources) (files : Files) → Does S (record { state = tiny_state; files = files })
+    (command WritePortable [] (commands.Files (codes "T.gft" ∷ [])) ∷ [])
+    (replying (record { state = tiny_state; files = insert files (codes "T.gft") (file_of tiny) })
+    (codes "wrote T.gft 133 bytes" ∷ []))
+unfolding digits
+tiny_written S files =
+    writes (alone WritePortable (commands.Files (codes "T.gft" ∷ []))) (tiny, loaded refl (file, tt), refl) (omega arith)
+
+-- a compiled grammar does not stand for the empty state
+tiny_is_not_empty : (S : Sources) → ¬ StandsFor S (Some tiny) None
+tiny_is_not_empty S d = elim d [ ]

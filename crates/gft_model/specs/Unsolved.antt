@@ -1,0 +1,77 @@
+-- Why a tree of a command has no solution: the first rule that it breaks.
+use Rattle.std.specs.Prelude.{◌≡◌, ◌≢◌, ◌⊎◌, ◌<◌, ◌≤◌, ℕ, suc, List, [], ◌∷◌, ◌++◌, length, Contains, Some, slice_get}
+use Rattle.std.specs.Cmp.Lexicographic.{slice_cmp}
+use Rattle.std.specs.Ordering.{nat_cmp}
+use Rattle.std.specs.declared.cmp.Ordering.TheVariants.{Less}
+use Rattle.gft_core.specs.declared.tree.Tree.{Tree}
+use Rattle.gft_pmcfg.specs.declared.signature.AType.{AType}
+use Rattle.gft_pmcfg.specs.declared.signature.Abstract.{Abstract}
+use Rattle.gft_pmcfg.specs.declared.signature.Fun.{Fun}
+use Rattle.gft_rules.specs.declared.refusal.Refusal.{Refusal}
+use Rattle.gft_rules.specs.declared.rule.Rule.TheVariants.{UnknownFun, WrongArity, WrongCategory, IllTyped}
+use Rattle.gft_model.specs.Commands.{refusal}
+use Rattle.gft_model.specs.Solutions.{IsSolution}
+use Rattle.gft_model.specs.States.{category_name}
+use Rattle.gft_model.specs.Trees.{IsApplication, IsInteger, IsString, IsHole, subtree_at, text_of}
+
+-- Positions, as lists of argument numbers, are in pre-order by their numbers: a tree before its arguments.
+
+-- one position is before another, or the same
+abbrev pub IsNotAfter : List ℕ → List ℕ → Type 0
+IsNotAfter p q = (p ≡ q) ⊎ (slice_cmp nat_cmp p q ≡ Less)
+
+-- the subtree at the position applies the function to arguments
+pub record AppliesAt (t : Tree) (p : List ℕ) (f : List ℕ) (ts : List Tree) : Type 0 where
+  pub subtree : Tree
+  pub stands : subtree_at t p ≡ Some subtree
+  pub applies : IsApplication subtree f ts
+
+-- the hole stands at the position
+pub record HoleAt (t : Tree) (p : List ℕ) (k : ℕ) : Type 0 where
+  pub subtree : Tree
+  pub stands : subtree_at t p ≡ Some subtree
+  pub hole : IsHole subtree k
+
+-- the category that an argument must have, by its function
+pub data MustHave (a : Abstract) (t : Tree) : List ℕ → ℕ → Type 0 where
+  argument : {p : List ℕ} {f : Fun} {ts : List Tree} (i : ℕ) {type : AType} → Contains a.funs f → AppliesAt t p f.name ts
+      → slice_get f.args i ≡ Some type → MustHave a t (p ++ suc i ∷ []) type.cat
+
+-- the category that the subtree at a position has; a hole has the one that it must have where it first occurs
+pub data HasCategory (a : Abstract) (t : Tree) (p : List ℕ) : ℕ → Type 0 where
+  application : {f : Fun} {ts : List Tree} → Contains a.funs f → AppliesAt t p f.name ts → HasCategory a t p f.result.cat
+  integer : {s : Tree} {n : ℕ} → subtree_at t p ≡ Some s → IsInteger s n → HasCategory a t p 0
+  text : {s : Tree} {w : List ℕ} → subtree_at t p ≡ Some s → IsString s w → HasCategory a t p 1
+  hole : {q : List ℕ} {k cat : ℕ} → HoleAt t p k → HoleAt t q k → ((r : List ℕ) → HoleAt t r k → IsNotAfter q r)
+      → MustHave a t q cat → HasCategory a t p cat
+
+-- what is wrong at a position, in the order of kinds: a function that is not there, one with another number of
+-- arguments, an argument of another category
+pub data IsWrongAt (a : Abstract) (t : Tree) (p : List ℕ) : ℕ → Refusal → Type 0 where
+  unknown_fun : {name : List ℕ} {ts : List Tree} → AppliesAt t p name ts → ((f : Fun) → Contains a.funs f → f.name ≢ name)
+      → IsWrongAt a t p 0 (refusal UnknownFun (name ∷ []))
+  wrong_arity : {f : Fun} {ts : List Tree} → Contains a.funs f → AppliesAt t p f.name ts → length ts ≢ length f.args
+      → IsWrongAt a t p 1 (refusal WrongArity (f.name ∷ []))
+  wrong_category : {wanted found : ℕ} → MustHave a t p wanted → HasCategory a t p found → wanted ≢ found
+      → IsWrongAt a t p 2 (refusal WrongCategory (category_name a wanted ∷ category_name a found ∷ []))
+
+-- by position in pre-order, and at one position by kind
+abbrev pub ComesFirst : List ℕ → ℕ → List ℕ → ℕ → Type 0
+ComesFirst p kind q other = (slice_cmp nat_cmp p q ≡ Less) ⊎ ((p ≡ q) × (kind ≤ other))
+
+-- one position is before another in post-order: in one of its arguments, or further to the left
+pub data IsBefore : List ℕ → List ℕ → Type 0 where
+  within : (p : List ℕ) (i : ℕ) (r : List ℕ) → IsBefore (p ++ i ∷ r) p
+  left : (p r s : List ℕ) (i j : ℕ) → i < j → IsBefore (p ++ i ∷ r) (p ++ j ∷ s)
+
+abbrev pub IsSolvable : Abstract → Tree → Type 0
+IsSolvable a t = (solution : Tree) × IsSolution a t solution
+
+-- the first refusal of a tree: what is wrong first, else its first subtree that has no solution by itself
+pub data IsUnsolved (a : Abstract) (t : Tree) : Refusal → Type 0 where
+  wrong : {p : List ℕ} {kind : ℕ} {r : Refusal} → IsWrongAt a t p kind r
+      → ((q : List ℕ) (other : ℕ) (s : Refusal) → IsWrongAt a t q other s → ComesFirst p kind q other) → IsUnsolved a t r
+  ill_typed : {p : List ℕ} {u : Tree} → ((q : List ℕ) (kind : ℕ) (s : Refusal) → ¬ IsWrongAt a t q kind s)
+      → subtree_at t p ≡ Some u → ¬ IsSolvable a u
+      → ((q : List ℕ) (v : Tree) → IsBefore q p → subtree_at t q ≡ Some v → IsSolvable a v)
+      → IsUnsolved a t (refusal IllTyped (text_of u ∷ []))
