@@ -45,3 +45,4 @@ pub mod InfoExamples
 pub mod LinearizeExamples
 pub mod OutputExamples
 pub mod ReplyExamples
+pub mod CommandLaws

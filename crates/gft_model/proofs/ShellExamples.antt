@@ -73,7 +73,7 @@ tiny_written : (S : Sources) (files : Files) → Does S (record { state = tiny_s
     (codes "wrote T.gft 133 bytes" ∷ []))
 unfolding digits
 tiny_written S files =
-    writes (alone WritePortable (commands.Files (codes "T.gft" ∷ []))) (tiny, loaded refl (file, tt), refl) (omega arith)
+    writes (alone WritePortable (commands.Files (codes "T.gft" ∷ []))) (tiny, loaded refl (file refl, tt), refl) (omega arith)
 
 -- a compiled grammar does not stand for the empty state
 tiny_is_not_empty : (S : Sources) → ¬ StandsFor S (Some tiny) None

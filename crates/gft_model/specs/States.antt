@@ -88,10 +88,11 @@ pub data Joins : State → Loaded → Loaded → Type 0 where
       → Joins (Some held) new (record { abs = new.abs; languages = added held.languages new.languages })
   other : {held new : Loaded} → held.abs ≢ new.abs → Joins (Some held) new new
 
--- the compiled form of a language
+-- the compiled form of a language, of the same name
 pub data IsCompiled (S : Sources) : List ℕ × Kept → Concrete → Type 0 where
-  source : {name : List ℕ} {flat : Flat} {c : Concrete} → S.compiles flat name c → IsCompiled S (name, of_source flat) c
-  file : {name : List ℕ} {c : Concrete} → IsCompiled S (name, of_file c) c
+  source : {name : List ℕ} {flat : Flat} {c : Concrete} → c.name ≡ name → S.compiles flat name c
+      → IsCompiled S (name, of_source flat) c
+  file : {name : List ℕ} {c : Concrete} → c.name ≡ name → IsCompiled S (name, of_file c) c
 
 -- a session's compiled grammar, or none, stands for a state
 pub data StandsFor (S : Sources) : Option Grammar → State → Type 0 where

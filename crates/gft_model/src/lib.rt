@@ -2,6 +2,7 @@
 #![tactic(auto)]
 
 mod laws;
+mod lines;
 mod sources;
 
 pub use laws::{
@@ -10,6 +11,7 @@ pub use laws::{
     run_gives_string, run_gives_value, solution_is_unique, string_is_of_run, type_is_determined,
     typed_has_skeleton_type, value_is_of_run, yield_is_determined,
 };
+pub use lines::line_is_read_once;
 pub use sources::{
     alternatives_in_order, found_type_is_determined, meaning_is_determined, no_variants,
     pattern_fits_once, tokens_are_determined, values_are_counted, written_type_is_determined,
