@@ -16,7 +16,7 @@ use Rattle.gft_syntax.specs.declared.term.Sort.TheVariants as Sort
 use Rattle.gft_syntax.specs.declared.term.Term.{Term}
 use Rattle.gft_syntax.specs.declared.term.Term.TheOpen as F
 use Rattle.gft_model.specs.ConcreteTypes.{IsSubtype, equal, fewer_labels, tables, numbers, functions}
-use Rattle.gft_model.specs.ConcreteTyping.{is_record, is_type_form, is_table_expression, passes, Spine, applied_to, at_head, Fits, same, cut, sort, IsType, IsHead, Stands, a_parameter, Takes, takes_none, takes, Suits, Chosen, parameter_of, AreLabels, no_label, label, text_type, type_of_types, type_of_parameters, numbers_to, labels, table_over, function_from, pair_of, parameters_named, oper_named, definition_named, with_names, with_lets, Finds, Checks, ChecksLambda, body, binds, ChecksTable, cell, over, ChecksArguments, no_argument_left, next_argument, FindsAll, none_found, next_found, MembersFind, first_member, MembersCheck, no_member, member, BranchesFind, first_branch, BranchesCheck, no_branch, branch, FieldsHave, no_field, value_done, value_given, value_found, typed_done, typed_given, typed_alone, Defines, no_local, local, typed_local, variable, constructor_name, typed_oper, untyped_oper, alternative_alone, parameter_name, literal, append, glue, number, predef, projection, application, overloaded, selection, branch_over, branch_of, item_of, case_found, table_found, list_found, record_found, extension, typed, let_found, variants_found, lambda, table_lambda, branches, branches_over, listed, record_given, let_given, case_given, variants_given, empty_type, parameter_given, found, type_form}
+use Rattle.gft_model.specs.ConcreteTyping.{is_record, is_type_form, is_table_expression, passes, Spine, applied_to, at_head, Fits, same, cut, sort, IsType, IsHead, Stands, a_parameter, Takes, takes_none, takes, Suits, Chosen, parameter_of, AreLabels, no_label, label, text_type, type_of_types, type_of_parameters, numbers_to, labels, table_over, function_from, pair_of, parameters_named, oper_named, definition_named, with_names, with_lets, Finds, Checks, ChecksLambda, body, binds, ChecksTable, cell, over, ChecksArguments, no_argument_left, next_argument, FindsAll, none_found, next_found, MembersFind, first_member, MembersCheck, no_member, member, BranchesFind, first_branch, BranchesCheck, no_branch, branch, FieldsHave, no_field, value_given, value_found, typed_given, typed_alone, Defines, no_local, local, typed_local, variable, constructor_name, typed_oper, untyped_oper, alternative_alone, parameter_name, literal, append, glue, number, predef, projection, application, overloaded, selection, branch_over, branch_of, item_of, case_found, table_found, list_found, record_found, extension, typed, let_found, variants_found, lambda, table_lambda, branches, branches_over, listed, record_given, let_given, case_given, variants_given, empty_type, parameter_given, found, type_form}
 use Rattle.gft_model.specs.Items.{Item}
 use Rattle.gft_model.specs.PatternTyping.{Scope}
 use Rattle.gft_model.specs.TypeForms.{form, sort_type, record_type}
@@ -179,10 +179,8 @@ module _ (items : List Item) where
   no-mix : {Γ : Scope} {ls ks : List (Local Term)} {fs gs hs : List (List ℕ × CType)} {ts : List (List ℕ × LinTerm)} → AreLabels items ls fs → FieldsHave items Γ gs ks hs ts → ls ≡ ks → ls ≡ []
   no-mix no_label d e = refl
   no-mix (label a b c) no_field e = e
-  no-mix (label a b c) (value_done x) e = cc
   no-mix (label a b c) (value_given x y z) e = cc
   no-mix (label a b c) (value_found x y z w) e = cc
-  no-mix (label a b c) (typed_done x) e = cc
   no-mix (label a b c) (typed_given x y z w v) e = cc
   no-mix (label a b c) (typed_alone x y z w v) e = cc
 
@@ -307,10 +305,8 @@ module _ (items : List Item) where
 
   fields-empty : {Γ : Scope} {gs fs : List (List ℕ × CType)} {ls : List (Local Term)} {ts : List (List ℕ × LinTerm)} → FieldsHave items Γ gs ls fs ts → ls ≡ [] → fs ≡ []
   fields-empty no_field e = refl
-  fields-empty (value_done a0) e = cc
   fields-empty (value_given a0 a1 a2) e = cc
   fields-empty (value_found a0 a1 a2 a3) e = cc
-  fields-empty (typed_done a0) e = cc
   fields-empty (typed_given a0 a1 a2 a3 a4) e = cc
   fields-empty (typed_alone a0 a1 a2 a3 a4) e = cc
 
@@ -566,16 +562,12 @@ module _ (items : List Item) where
     fields-have : {Γ Δ : Scope} {gs hs fs es : List (List ℕ × CType)} {ls ks : List (Local Term)} {ts us : List (List ℕ × LinTerm)} → FieldsHave items Γ gs ls fs ts → FieldsHave items Δ hs ks es us → Γ ≡ Δ → gs ≡ hs → ls ≡ ks → (fs ≡ es) × (ts ≡ us)
     fields-have no_field no_field g h e = (refl, refl)
     fields-have no_field d g h e = (cc, cc)
-    fields-have (value_done a0) (value_done b0) g h e = fields-have a0 b0 g h (cc)
-    fields-have (value_done a0) d g h e = (cc, cc)
     fields-have (value_given a0 a1 a2) (value_given b0 b1 b2) g h e = let i = check-once a1 b1 g (cc) (cc) in let j = fields-have a2 b2 g h (cc) in (cc, cc)
     fields-have (value_given a0 a1 a2) (value_found b0 b1 b2 b3) g h e = (cc, cc)
     fields-have (value_given a0 a1 a2) d g h e = (cc, cc)
     fields-have (value_found a0 a1 a2 a3) (value_found b0 b1 b2 b3) g h e = let i = find-once a1 b1 g (cc) in let j = fields-have a3 b3 g h (cc) in (cc, cc)
     fields-have (value_found a0 a1 a2 a3) (value_given b0 b1 b2) g h e = (cc, cc)
     fields-have (value_found a0 a1 a2 a3) d g h e = (cc, cc)
-    fields-have (typed_done a0) (typed_done b0) g h e = fields-have a0 b0 g h (cc)
-    fields-have (typed_done a0) d g h e = (cc, cc)
     fields-have (typed_given a0 a1 a2 a3 a4) (typed_given b0 b1 b2 b3 b4) g h e =
         let k = type-once items a1 b1 (cc) in let i = check-once a2 b2 g (cc) k in let l = fits-same a3 b3 k (cc) i in let j = fields-have a4 b4 g h (cc) in (cc, cc)
     fields-have (typed_given a0 a1 a2 a3 a4) (typed_alone b0 b1 b2 b3 b4) g h e = (cc, cc)

@@ -6,7 +6,7 @@ use Rattle.gft_syntax.specs.declared.pattern.PatternField.{PatternField}
 use Rattle.gft_syntax.specs.declared.pattern.Pattern.TheOpen as P
 use Rattle.gft_syntax.specs.declared.reference.Reference.TheVariants.{Written, Whole as WholeName}
 use Rattle.gft_syntax.specs.declared.reference.Whole.{Whole}
-use Rattle.gft_model.specs.PatternTyping.{pattern_form, Scope, Constructs, PatternFits, either, sequence, constructor_with, repeated, as_well, anything, character, variable, literal, number, record_of, EachFits, no_more, more, FieldsFit, no_field, field_done, field}
+use Rattle.gft_model.specs.PatternTyping.{pattern_form, Scope, Constructs, PatternFits, either, sequence, constructor_with, repeated, as_well, anything, character, variable, literal, number, record_of, EachFits, no_more, more, FieldsFit, no_field, field}
 
 -- the form of a pattern that fits
 abbrev pub form_of : {T : CType} {r : Pattern} {Γ : Scope} → PatternFits T r Γ → P.Pattern-F Pattern
@@ -43,10 +43,6 @@ same-arguments a b e f = cc
 heads : {a b : PatternField Pattern} {fs gs : List (PatternField Pattern)} → a ∷ fs ≡ b ∷ gs → (a.labels ≡ b.labels) × (a.pattern ≡ b.pattern) × (fs ≡ gs)
 heads {a = a} {b = b} e = let i : a ≡ b = cc in (ap (λ f. f.labels) i, ap (λ f. f.pattern) i, cc)
 
-same-fields : {l k : List ℕ} {ls ks : List (List ℕ)} {p q : Pattern} {fs gs : List (PatternField Pattern)} → (l ∷ ls ≡ k ∷ ks) × (p ≡ q) × (fs ≡ gs) →
-    record { labels = ls; pattern = p } ∷ fs ≡ record { labels = ks; pattern = q } ∷ gs
-same-fields h = cc
-
 mutual
   pub fits-once : {T U : CType} {r s : Pattern} {Γ Δ : Scope} → PatternFits T r Γ → PatternFits U s Δ → T ≡ U → r ≡ s → Γ ≡ Δ
   fits-once (either a0 a1 a2 a3) (either b0 b1 b2 b3) e f = fits-once a1 b1 e (cc)
@@ -80,12 +76,7 @@ mutual
 
   fields-once : {gs hs : List (List ℕ × CType)} {fs es : List (PatternField Pattern)} {Γ Δ : Scope} → FieldsFit gs fs Γ → FieldsFit hs es Δ → gs ≡ hs → fs ≡ es → Γ ≡ Δ
   fields-once no_field no_field e f = refl
-  fields-once no_field (field_done b0) e f = cc
   fields-once no_field (field b0 b1 b2) e f = cc
-  fields-once (field_done a0) no_field e f = cc
-  fields-once (field_done a0) (field_done b0) e f = let h = heads f in fields-once a0 b0 e h.2
-  fields-once (field_done a0) (field b0 b1 b2) e f = let h = heads f in cc
   fields-once (field a0 a1 a2) no_field e f = cc
-  fields-once (field a0 a1 a2) (field_done b0) e f = let h = heads f in cc
   fields-once (field a0 a1 a2) (field b0 b1 b2) e f = let h = heads f in
-      let i = fits-once a1 b1 (cc) h.1 in let j = fields-once a2 b2 e (same-fields h) in cc
+      let i = fits-once a1 b1 (cc) h.1 in let j = fields-once a2 b2 e h.2 in cc

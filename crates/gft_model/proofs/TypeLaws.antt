@@ -18,13 +18,6 @@ use Rattle.gft_model.specs.TypeForms.{form}
 pub same-layer : {T U : CType} → out-CType T ≡ out-CType U → T ≡ U
 same-layer {T = T} {U = U} e = sym (roll-out-CType T) ∙ ap roll-CType e ∙ roll-out-CType U
 
-same-labels : {xs ys : List (List ℕ)} {T U : CType} {fs gs : List (List ℕ × CType)} → xs ≡ ys → T ≡ U → fs ≡ gs →
-    map (λ (x : List ℕ). (x, T)) xs ++ fs ≡ map (λ (x : List ℕ). (x, U)) ys ++ gs
-same-labels {ys = ys} {T = T} {U = U} {fs = fs} {gs = gs} e f g =
-    ap (λ (zs : List (List ℕ)). map (λ (x : List ℕ). (x, T)) zs ++ fs) e
-    ∙ ap (λ (S : CType). map (λ (x : List ℕ). (x, S)) ys ++ fs) f
-    ∙ ap (λ (hs : List (List ℕ × CType)). map (λ (x : List ℕ). (x, U)) ys ++ hs) g
-
 abbrev constructor_name_of : Whole → Constructor → Whole
 constructor_name_of w c = record { «module» = w.«module»; name = c.name.name }
 
@@ -115,7 +108,7 @@ module _ (items : List Item) where
     labels-once no_label no_label e = refl
     labels-once no_label (label b1 b2 b3) e = cc
     labels-once (label a1 a2 a3) no_label e = cc
-    labels-once (label a1 a2 a3) (label b1 b2 b3) e = let i = type-once a1 b1 (cc) in let j = labels-once a3 b3 (cc) in same-labels (cc) i j
+    labels-once (label a1 a2 a3) (label b1 b2 b3) e = let i = type-once a1 b1 (cc) in let j = labels-once a3 b3 (cc) in cc
 
     factors-once : {e f : Term} {Ts Us : List CType} → AreFactors items e Ts → AreFactors items f Us → e ≡ f → Ts ≡ Us
     factors-once (last_factor a1 a2 a3) (last_factor b1 b2 b3) e = let i = type-once a2 b2 e in cc

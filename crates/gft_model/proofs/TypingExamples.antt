@@ -23,7 +23,7 @@ use Rattle.gft_syntax.specs.declared.term.Sort.TheVariants as Sort
 use Rattle.gft_syntax.specs.declared.term.Term.{Term, roll-Term}
 use Rattle.gft_syntax.specs.declared.term.Term.TheOpen as F
 use Rattle.gft_model.specs.ConcreteTypes.{IsSubtype, fewer_labels, numbers, label, no_label, equal, values_of}
-use Rattle.gft_model.specs.ConcreteTyping.{IsData, IsType, Finds, Checks, Covers, patterns, passes, IsHead, Spine, Takes, takes, takes_none, Suits, Chosen, overloaded, Stands, an_overload, text_type, function_from, next_found, none_found, value_done, found, append, literal, number, same, cut, predef, application, applied_to, at_head, next_argument, no_argument_left, record_given, value_given, value_found, no_field, branches, branch, no_branch}
+use Rattle.gft_model.specs.ConcreteTyping.{IsData, IsType, Finds, Checks, Covers, patterns, passes, IsHead, Spine, Takes, takes, takes_none, Suits, Chosen, overloaded, Stands, an_overload, text_type, function_from, next_found, none_found, found, append, literal, number, same, cut, predef, application, applied_to, at_head, next_argument, no_argument_left, record_given, value_given, value_found, no_field, branches, branch, no_branch}
 use Rattle.gft_model.specs.Items.{Item, alternative}
 use Rattle.gft_model.specs.Matching.{match_of, is_matched, parameter}
 use Rattle.gft_model.specs.PatternTyping.{pattern_form, no_more, Scope, PatternFits, Constructs, arguments_of, sequence, variable, literal as text_literal, constructor_with}
@@ -137,7 +137,7 @@ module _ (items : List Item) where
   -- {s = "a" ; n = 0} given {s : Str} is cut to s
   pub record_is_cut : Checks items [] (roll-Term (F.Fields (Value (codes "s" ∷ []) (word (codes "a")) ∷ Value (codes "n" ∷ []) zero_term ∷ []) nowhere)) small (made (L.Cut (made (L.Record ((codes "s", words (codes "a")) ∷ (codes "n", made (L.Num 0)) ∷ []))) large small))
   record_is_cut = record_given (form-roll _) (out-roll-CType _)
-      (value_given refl (literal_fits (codes "a")) (value_done (value_found refl (number (form-roll _)) (data_of _ (C.Ints 0) (out-roll-CType _) refl) (value_done no_field))))
+      (value_given refl (literal_fits (codes "a")) (value_found refl (number (form-roll _)) (data_of _ (C.Ints 0) (out-roll-CType _) refl) no_field))
       (cut (λ e. let h = out-roll-CType (C.Record large_fields) in let k = out-roll-CType (C.Record small_fields) in let i = ap out-CType e in cc)
            (fewer_labels (out-roll-CType _) (out-roll-CType _) (label refl equal no_label)))
 

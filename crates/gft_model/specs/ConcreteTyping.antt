@@ -27,7 +27,7 @@ use Rattle.gft_model.specs.ConcreteTypes.{field_of, is_finite, count_of, values_
 use Rattle.gft_model.specs.Items.{Item, parameter_type, bare_parameter, oper, alternative, lincat, lin, lindef, linref}
 use Rattle.gft_model.specs.Matching.{same_whole, parameter, match_of, is_matched}
 use Rattle.gft_model.specs.PatternTyping.{Scope, PatternFits, Constructs}
-use Rattle.gft_model.specs.TypeForms.{form, str_type, number_type, record_type, table_type, functions, sort_type, sort_param, tuple_fields, made, no_value, bound, with_bound, bound_pattern, constructor_term, predef_type, predef_term, predef_named}
+use Rattle.gft_model.specs.TypeForms.{FieldTypes, FieldTerms, BranchTerms, LocalTerms, form, str_type, number_type, record_type, table_type, functions, sort_type, sort_param, tuple_fields, made, no_value, bound, with_bound, bound_pattern, constructor_term, predef_type, predef_term, predef_named}
 use Rattle.gft_model.specs.Values.{extended}
 
 -- a type of data: no function type. Functions stand nowhere else but in opers and what they give
@@ -103,7 +103,7 @@ for_each (x ∷ xs) a = map (λ y. a) (x ∷ xs)
 abbrev pub with_names : List (List ℕ) → CType → Scope → Scope
 with_names xs T Γ = reverse (map (λ x. (x, T)) xs) ++ Γ
 
-abbrev pub with_lets : List (List (List ℕ) × LinTerm) → LinTerm → LinTerm
+abbrev pub with_lets : LocalTerms → LinTerm → LinTerm
 with_lets [] t = t
 with_lets (d ∷ ds) t = made (Lin-F.Let d.0 d.1 (with_lets ds t))
 
@@ -157,7 +157,7 @@ module _ (items : List Item) where
       numbers_to : {e f a : Term} {n : ℕ} {p q r : Place} → form e ≡ Term-F.App f a p →
           form f ≡ Term-F.Sort Sort-V.Ints q → form a ≡ Term-F.Num n r → n + 1 ≤ most_values →
           IsType e (number_type n)
-      labels : {e : Term} {ls : List (Local Term)} {p : Place} {fs : List (List ℕ × CType)} →
+      labels : {e : Term} {ls : List (Local Term)} {p : Place} {fs : FieldTypes} →
           form e ≡ Term-F.Fields ls p → AreLabels ls fs → IsType e (record_type fs)
       table_over : {e a b : Term} {p : Place} {P V : CType} → form e ≡ Term-F.TabType a b p →
           IsType a P → IsDomain P → IsType b V → IsData V → IsType e (table_type P V)
@@ -196,11 +196,10 @@ module _ (items : List Item) where
           AreArguments (c ∷ cs) (for_each c.binds T ++ Ts)
 
     -- labels with types of data
-    pub data AreLabels : List (Local Term) → List (List ℕ × CType) → Type 0 where
+    pub data AreLabels : List (Local Term) → FieldTypes → Type 0 where
       no_label : AreLabels [] []
-      label : {xs : List (List ℕ)} {t : Term} {ls : List (Local Term)} {T : CType} {fs : List (List ℕ × CType)} →
-          IsType t T → IsData T → AreLabels ls fs →
-          AreLabels (Label xs t ∷ ls) (map (λ x. (x, T)) xs ++ fs)
+      label : {x : List ℕ} {t : Term} {ls : List (Local Term)} {T : CType} {fs : FieldTypes} →
+          IsType t T → IsData T → AreLabels ls fs → AreLabels (Label (x ∷ []) t ∷ ls) ((x, T) ∷ fs)
 
     -- the types of a product; where the left side is a product in turn, its items stay
     pub data AreFactors : Term → List CType → Type 0 where
@@ -274,7 +273,7 @@ module _ (items : List Item) where
       predef : {Γ : Scope} {e f : Term} {x : List ℕ} {p q : Place} {r : Predef} →
           form e ≡ Term-F.Proj f x p → form f ≡ Term-F.Sort Sort-V.Predef q →
           predef_named x ≡ Some r → Finds Γ e predef_type (predef_term r p)
-      projection : {Γ : Scope} {e r : Term} {x : List ℕ} {p : Place} {R T : CType} {fs : List (List ℕ × CType)} {t : LinTerm} →
+      projection : {Γ : Scope} {e r : Term} {x : List ℕ} {p : Place} {R T : CType} {fs : FieldTypes} {t : LinTerm} →
           form e ≡ Term-F.Proj r x p → ((q : Place) →
           ¬ (form r ≡ Term-F.Sort Sort-V.Predef q)) → Finds Γ r R t →
           out-CType R ≡ CType-F.Record fs → field_of x fs ≡ Some T →
@@ -289,11 +288,11 @@ module _ (items : List Item) where
           form e ≡ Term-F.Select a b p → is_table_expression (form a) ≡ false →
           Finds Γ a S t → out-CType S ≡ CType-F.Table P V → Checks Γ b P u →
           Finds Γ e V (made (Lin-F.Select t u))
-      branch_over : {Γ : Scope} {e a b P : Term} {cs : List (Case Term)} {p q : Place} {S V : CType} {u : LinTerm} {bs : List (Pattern × LinTerm)} →
+      branch_over : {Γ : Scope} {e a b P : Term} {cs : List (Case Term)} {p q : Place} {S V : CType} {u : LinTerm} {bs : BranchTerms} →
           form e ≡ Term-F.Select a b p → form a ≡ Term-F.TableOf (Some P) cs q → IsType P S →
           BranchesFind Γ S cs V bs → IsCovered S (patterns cs) → Checks Γ b S u →
           Finds Γ e V (made (Lin-F.Case u (Matched bs) p))
-      branch_of : {Γ : Scope} {e a b : Term} {cs : List (Case Term)} {p q : Place} {S V : CType} {u : LinTerm} {bs : List (Pattern × LinTerm)} →
+      branch_of : {Γ : Scope} {e a b : Term} {cs : List (Case Term)} {p q : Place} {S V : CType} {u : LinTerm} {bs : BranchTerms} →
           form e ≡ Term-F.Select a b p → form a ≡ Term-F.TableOf None cs q → Finds Γ b S u →
           BranchesFind Γ S cs V bs → IsCovered S (patterns cs) →
           Finds Γ e V (made (Lin-F.Case u (Matched bs) p))
@@ -301,26 +300,26 @@ module _ (items : List Item) where
           form e ≡ Term-F.Select a b p → form a ≡ Term-F.TableList P es q → IsType P S →
           IsDomain S → MembersFind Γ es V ts → count_of S ≤ length es → Checks Γ b S u →
           Finds Γ e V (made (Lin-F.Case u (Listed S ts) p))
-      case_found : {Γ : Scope} {e b : Term} {cs : List (Case Term)} {p : Place} {S V : CType} {u : LinTerm} {bs : List (Pattern × LinTerm)} →
+      case_found : {Γ : Scope} {e b : Term} {cs : List (Case Term)} {p : Place} {S V : CType} {u : LinTerm} {bs : BranchTerms} →
           form e ≡ Term-F.CaseOf b cs p → Finds Γ b S u → BranchesFind Γ S cs V bs →
           IsCovered S (patterns cs) → Finds Γ e V (made (Lin-F.Case u (Matched bs) p))
-      table_found : {Γ : Scope} {e P : Term} {cs : List (Case Term)} {p : Place} {S V : CType} {bs : List (Pattern × LinTerm)} →
+      table_found : {Γ : Scope} {e P : Term} {cs : List (Case Term)} {p : Place} {S V : CType} {bs : BranchTerms} →
           form e ≡ Term-F.TableOf (Some P) cs p → IsType P S → IsDomain S →
           BranchesFind Γ S cs V bs → Covers S (patterns cs) →
           Finds Γ e (table_type S V) (made (Lin-F.Table S (Matched bs)))
       list_found : {Γ : Scope} {e P : Term} {es : List Term} {p : Place} {S V : CType} {ts : List LinTerm} →
           form e ≡ Term-F.TableList P es p → IsType P S → IsDomain S → MembersFind Γ es V ts →
           count_of S ≤ length es → Finds Γ e (table_type S V) (made (Lin-F.Table S (Listed S ts)))
-      record_found : {Γ : Scope} {e : Term} {ls : List (Local Term)} {p : Place} {fs : List (List ℕ × CType)} {ts : List (List ℕ × LinTerm)} →
+      record_found : {Γ : Scope} {e : Term} {ls : List (Local Term)} {p : Place} {fs : FieldTypes} {ts : FieldTerms} →
           form e ≡ Term-F.Fields ls p → FieldsHave Γ [] ls fs ts →
           Finds Γ e (record_type fs) (made (Lin-F.Record ts))
-      extension : {Γ : Scope} {e a b : Term} {p : Place} {S T : CType} {fs gs : List (List ℕ × CType)} {t u : LinTerm} →
+      extension : {Γ : Scope} {e a b : Term} {p : Place} {S T : CType} {fs gs : FieldTypes} {t u : LinTerm} →
           form e ≡ Term-F.Extend a b p → Finds Γ a S t → out-CType S ≡ CType-F.Record fs →
           Finds Γ b T u → out-CType T ≡ CType-F.Record gs →
           Finds Γ e (record_type (extended fs gs)) (made (Lin-F.Extend t u))
       typed : {Γ : Scope} {e a b : Term} {p : Place} {T : CType} {t : LinTerm} →
           form e ≡ Term-F.Typed a b p → IsType b T → Checks Γ a T t → Finds Γ e T t
-      let_found : {Γ Δ : Scope} {e b : Term} {ls : List (Local Term)} {p : Place} {ds : List (List (List ℕ) × LinTerm)} {T : CType} {t : LinTerm} →
+      let_found : {Γ Δ : Scope} {e b : Term} {ls : List (Local Term)} {p : Place} {ds : LocalTerms} {T : CType} {t : LinTerm} →
           form e ≡ Term-F.Let ls b p → Defines Γ ls Δ ds → Finds Δ b T t →
           Finds Γ e T (with_lets ds t)
       variants_found : {Γ : Scope} {e : Term} {es : List Term} {p : Place} {T : CType} {ts : List LinTerm} →
@@ -333,11 +332,11 @@ module _ (items : List Item) where
           form e ≡ Term-F.Fun xs b p → ChecksLambda Γ xs b T t → Checks Γ e T t
       table_lambda : {Γ : Scope} {e b : Term} {xs : List Bind} {p : Place} {T : CType} {t : LinTerm} →
           form e ≡ Term-F.TabFun xs b p → ChecksTable Γ xs b T t → Checks Γ e T t
-      branches : {Γ : Scope} {e : Term} {cs : List (Case Term)} {p : Place} {T P V : CType} {bs : List (Pattern × LinTerm)} →
+      branches : {Γ : Scope} {e : Term} {cs : List (Case Term)} {p : Place} {T P V : CType} {bs : BranchTerms} →
           form e ≡ Term-F.TableOf None cs p → out-CType T ≡ CType-F.Table P V →
           BranchesCheck Γ P cs V bs → Covers P (patterns cs) →
           Checks Γ e T (made (Lin-F.Table P (Matched bs)))
-      branches_over : {Γ : Scope} {e D : Term} {cs : List (Case Term)} {p : Place} {T P V : CType} {bs : List (Pattern × LinTerm)} →
+      branches_over : {Γ : Scope} {e D : Term} {cs : List (Case Term)} {p : Place} {T P V : CType} {bs : BranchTerms} →
           form e ≡ Term-F.TableOf (Some D) cs p → out-CType T ≡ CType-F.Table P V → IsType D P →
           BranchesCheck Γ P cs V bs → Covers P (patterns cs) →
           Checks Γ e T (made (Lin-F.Table P (Matched bs)))
@@ -345,14 +344,14 @@ module _ (items : List Item) where
           form e ≡ Term-F.TableList D es p → out-CType T ≡ CType-F.Table P V → IsType D P →
           MembersCheck Γ es V ts → count_of P ≤ length es →
           Checks Γ e T (made (Lin-F.Table P (Listed P ts)))
-      record_given : {Γ : Scope} {e : Term} {ls : List (Local Term)} {p : Place} {T : CType} {fs gs : List (List ℕ × CType)} {ts : List (List ℕ × LinTerm)} {t : LinTerm} →
+      record_given : {Γ : Scope} {e : Term} {ls : List (Local Term)} {p : Place} {T : CType} {fs gs : FieldTypes} {ts : FieldTerms} {t : LinTerm} →
           form e ≡ Term-F.Fields ls p → out-CType T ≡ CType-F.Record gs →
           FieldsHave Γ gs ls fs ts → Fits (record_type fs) T (made (Lin-F.Record ts)) t →
           Checks Γ e T t
-      let_given : {Γ Δ : Scope} {e b : Term} {ls : List (Local Term)} {p : Place} {ds : List (List (List ℕ) × LinTerm)} {T : CType} {t : LinTerm} →
+      let_given : {Γ Δ : Scope} {e b : Term} {ls : List (Local Term)} {p : Place} {ds : LocalTerms} {T : CType} {t : LinTerm} →
           form e ≡ Term-F.Let ls b p → Defines Γ ls Δ ds → Checks Δ b T t →
           Checks Γ e T (with_lets ds t)
-      case_given : {Γ : Scope} {e b : Term} {cs : List (Case Term)} {p : Place} {S T : CType} {u : LinTerm} {bs : List (Pattern × LinTerm)} →
+      case_given : {Γ : Scope} {e b : Term} {cs : List (Case Term)} {p : Place} {S T : CType} {u : LinTerm} {bs : BranchTerms} →
           form e ≡ Term-F.CaseOf b cs p → Finds Γ b S u → BranchesCheck Γ S cs T bs →
           IsCovered S (patterns cs) → Checks Γ e T (made (Lin-F.Case u (Matched bs) p))
       variants_given : {Γ : Scope} {e : Term} {es : List Term} {p : Place} {T : CType} {ts : List LinTerm} →
@@ -406,50 +405,49 @@ module _ (items : List Item) where
           Checks Γ e T t → IsData T → MembersCheck Γ es T ts → MembersCheck Γ (e ∷ es) T (t ∷ ts)
 
     -- branches in the same way, each under its pattern's variables
-    pub data BranchesFind : Scope → CType → List (Case Term) → CType → List (Pattern × LinTerm) →
+    pub data BranchesFind : Scope → CType → List (Case Term) → CType → BranchTerms →
         Type 0 where
-      first_branch : {Γ Δ : Scope} {P V : CType} {c : Case Term} {cs : List (Case Term)} {t : LinTerm} {bs : List (Pattern × LinTerm)} →
+      first_branch : {Γ Δ : Scope} {P V : CType} {c : Case Term} {cs : List (Case Term)} {t : LinTerm} {bs : BranchTerms} →
           PatternFits P c.pattern Δ → Finds (Δ ++ Γ) c.body V t → IsData V →
           BranchesCheck Γ P cs V bs → BranchesFind Γ P (c ∷ cs) V ((c.pattern, t) ∷ bs)
 
-    pub data BranchesCheck : Scope → CType → List (Case Term) → CType → List (Pattern × LinTerm) →
+    pub data BranchesCheck : Scope → CType → List (Case Term) → CType → BranchTerms →
         Type 0 where
       no_branch : {Γ : Scope} {P V : CType} → BranchesCheck Γ P [] V []
-      branch : {Γ Δ : Scope} {P V : CType} {c : Case Term} {cs : List (Case Term)} {t : LinTerm} {bs : List (Pattern × LinTerm)} →
+      branch : {Γ Δ : Scope} {P V : CType} {c : Case Term} {cs : List (Case Term)} {t : LinTerm} {bs : BranchTerms} →
           PatternFits P c.pattern Δ → Checks (Δ ++ Γ) c.body V t → IsData V →
           BranchesCheck Γ P cs V bs → BranchesCheck Γ P (c ∷ cs) V ((c.pattern, t) ∷ bs)
 
-    -- fields of data as written, label by label: one whose label has a given type is given it, one with
-    -- a type of its own is given that, and every other is found
-    pub data FieldsHave : Scope → List (List ℕ × CType) → List (Local Term) → List (List ℕ × CType) →
-        List (List ℕ × LinTerm) → Type 0 where
-      no_field : {Γ : Scope} {gs : List (List ℕ × CType)} → FieldsHave Γ gs [] [] []
-      value_done : {Γ : Scope} {gs fs : List (List ℕ × CType)} {e : Term} {ls : List (Local Term)} {ts : List (List ℕ × LinTerm)} →
-          FieldsHave Γ gs ls fs ts → FieldsHave Γ gs (Value [] e ∷ ls) fs ts
-      value_given : {Γ : Scope} {gs fs : List (List ℕ × CType)} {x : List ℕ} {xs : List (List ℕ)} {e : Term} {ls : List (Local Term)} {ts : List (List ℕ × LinTerm)} {T : CType} {t : LinTerm} →
-          field_of x gs ≡ Some T → Checks Γ e T t → FieldsHave Γ gs (Value xs e ∷ ls) fs ts →
-          FieldsHave Γ gs (Value (x ∷ xs) e ∷ ls) ((x, T) ∷ fs) ((x, t) ∷ ts)
-      value_found : {Γ : Scope} {gs fs : List (List ℕ × CType)} {x : List ℕ} {xs : List (List ℕ)} {e : Term} {ls : List (Local Term)} {ts : List (List ℕ × LinTerm)} {T : CType} {t : LinTerm} →
-          field_of x gs ≡ None → Finds Γ e T t → IsData T → FieldsHave Γ gs (Value xs e ∷ ls) fs ts →
-          FieldsHave Γ gs (Value (x ∷ xs) e ∷ ls) ((x, T) ∷ fs) ((x, t) ∷ ts)
-      typed_done : {Γ : Scope} {gs fs : List (List ℕ × CType)} {e D : Term} {ls : List (Local Term)} {ts : List (List ℕ × LinTerm)} →
-          FieldsHave Γ gs ls fs ts → FieldsHave Γ gs (TypedValue [] D e ∷ ls) fs ts
-      typed_given : {Γ : Scope} {gs fs : List (List ℕ × CType)} {x : List ℕ} {xs : List (List ℕ)} {e D : Term} {ls : List (Local Term)} {ts : List (List ℕ × LinTerm)} {S T : CType} {t u : LinTerm} →
+    -- fields of data as written: one whose label has a given type is given it, one with a type of its
+    -- own is given that, and every other is found
+    pub data FieldsHave : Scope → FieldTypes → List (Local Term) → FieldTypes → FieldTerms → Type 0 where
+      no_field : {Γ : Scope} {gs : FieldTypes} → FieldsHave Γ gs [] [] []
+      value_given : {Γ : Scope} {gs fs : FieldTypes} {x : List ℕ} {e : Term} {ls : List (Local Term)}
+          {ts : FieldTerms} {T : CType} {t : LinTerm} →
+          field_of x gs ≡ Some T → Checks Γ e T t → FieldsHave Γ gs ls fs ts →
+          FieldsHave Γ gs (Value (x ∷ []) e ∷ ls) ((x, T) ∷ fs) ((x, t) ∷ ts)
+      value_found : {Γ : Scope} {gs fs : FieldTypes} {x : List ℕ} {e : Term} {ls : List (Local Term)}
+          {ts : FieldTerms} {T : CType} {t : LinTerm} →
+          field_of x gs ≡ None → Finds Γ e T t → IsData T → FieldsHave Γ gs ls fs ts →
+          FieldsHave Γ gs (Value (x ∷ []) e ∷ ls) ((x, T) ∷ fs) ((x, t) ∷ ts)
+      typed_given : {Γ : Scope} {gs fs : FieldTypes} {x : List ℕ} {e D : Term} {ls : List (Local Term)}
+          {ts : FieldTerms} {S T : CType} {t u : LinTerm} →
           field_of x gs ≡ Some T → IsType D S → Checks Γ e S t → Fits S T t u →
-          FieldsHave Γ gs (TypedValue xs D e ∷ ls) fs ts →
-          FieldsHave Γ gs (TypedValue (x ∷ xs) D e ∷ ls) ((x, T) ∷ fs) ((x, u) ∷ ts)
-      typed_alone : {Γ : Scope} {gs fs : List (List ℕ × CType)} {x : List ℕ} {xs : List (List ℕ)} {e D : Term} {ls : List (Local Term)} {ts : List (List ℕ × LinTerm)} {S : CType} {t : LinTerm} →
+          FieldsHave Γ gs ls fs ts →
+          FieldsHave Γ gs (TypedValue (x ∷ []) D e ∷ ls) ((x, T) ∷ fs) ((x, u) ∷ ts)
+      typed_alone : {Γ : Scope} {gs fs : FieldTypes} {x : List ℕ} {e D : Term} {ls : List (Local Term)}
+          {ts : FieldTerms} {S : CType} {t : LinTerm} →
           field_of x gs ≡ None → IsType D S → IsData S → Checks Γ e S t →
-          FieldsHave Γ gs (TypedValue xs D e ∷ ls) fs ts →
-          FieldsHave Γ gs (TypedValue (x ∷ xs) D e ∷ ls) ((x, S) ∷ fs) ((x, t) ∷ ts)
+          FieldsHave Γ gs ls fs ts →
+          FieldsHave Γ gs (TypedValue (x ∷ []) D e ∷ ls) ((x, S) ∷ fs) ((x, t) ∷ ts)
 
     -- locals of data, each seeing those before it; the names of one do not see each other
-    pub data Defines : Scope → List (Local Term) → Scope → List (List (List ℕ) × LinTerm) →
+    pub data Defines : Scope → List (Local Term) → Scope → LocalTerms →
         Type 0 where
       no_local : {Γ : Scope} → Defines Γ [] Γ []
-      local : {Γ Δ : Scope} {xs : List (List ℕ)} {e : Term} {ls : List (Local Term)} {ds : List (List (List ℕ) × LinTerm)} {T : CType} {t : LinTerm} →
+      local : {Γ Δ : Scope} {xs : List (List ℕ)} {e : Term} {ls : List (Local Term)} {ds : LocalTerms} {T : CType} {t : LinTerm} →
           Finds Γ e T t → IsData T → Defines (with_names xs T Γ) ls Δ ds →
           Defines Γ (Value xs e ∷ ls) Δ ((xs, t) ∷ ds)
-      typed_local : {Γ Δ : Scope} {xs : List (List ℕ)} {e D : Term} {ls : List (Local Term)} {ds : List (List (List ℕ) × LinTerm)} {T : CType} {t : LinTerm} →
+      typed_local : {Γ Δ : Scope} {xs : List (List ℕ)} {e D : Term} {ls : List (Local Term)} {ds : LocalTerms} {T : CType} {t : LinTerm} →
           IsType D T → IsData T → Checks Γ e T t → Defines (with_names xs T Γ) ls Δ ds →
           Defines Γ (TypedValue xs D e ∷ ls) Δ ((xs, t) ∷ ds)

@@ -1,5 +1,5 @@
 -- Which patterns fit a type, and the types of their variables.
-use Rattle.std.specs.Prelude.{◌≡◌, ℕ, List, [], ◌∷◌, ◌++◌, Option, Some, None, if◌then◌else◌}
+use Rattle.std.specs.Prelude.{◌≡◌, ℕ, List, [], ◌∷◌, ◌++◌, map, flat_map, Option, Some, None, if◌then◌else◌}
 use Rattle.gft_core.specs.declared.place.Place.{Place}
 use Rattle.gft_syntax.specs.declared.ctype.CType.{CType, out-CType}
 use Rattle.gft_syntax.specs.declared.ctype.CType.TheOpen as CType-F
@@ -11,7 +11,7 @@ use Rattle.gft_syntax.specs.declared.reference.Reference.TheVariants.{Written, W
 use Rattle.gft_model.specs.ConcreteTypes.{field_of, IsSubtype}
 use Rattle.gft_syntax.specs.Patterns.{Layer}
 use Rattle.gft_model.specs.Matching.{same_whole, tuple_patterns}
-use Rattle.gft_model.specs.TypeForms.{str_type, number_type}
+use Rattle.gft_model.specs.TypeForms.{FieldTypes, str_type, number_type}
 
 -- variables with their types, the nearest first
 abbrev pub Scope : Type 0
@@ -33,10 +33,15 @@ pub record Constructs (c : Whole) (Ts : List CType) (T : CType) : Type 0 where
   pub is_type : out-CType T ≡ CType-F.Param type_name constructors
   pub has : arguments_of c constructors ≡ Some Ts
 
--- the form of a pattern without other spellings: a constructor alone is one without arguments, and a
--- tuple the record of its items
+-- a, b = p as a = p ; b = p
+abbrev pub field_by_field : PatternField Pattern → List (PatternField Pattern)
+field_by_field f = map (λ l. record { labels = l ∷ []; pattern = f.pattern }) f.labels
+
+-- the form of a pattern without other spellings: a constructor alone is one without arguments, each
+-- field has one label, and a tuple is the record of its items
 abbrev pub plain_pattern : Layer → Layer
 plain_pattern (Name (WholeName c) place) = Con None (WholeName c) [] place
+plain_pattern (Fields fs place) = Fields (flat_map field_by_field fs) place
 plain_pattern (Tuple ps place) = Fields (tuple_patterns 0 ps) place
 plain_pattern d = d
 
@@ -68,7 +73,7 @@ mutual
         PatternFits str_type r []
     number : {T : CType} {r : Pattern} {n : ℕ} {place : Place} → pattern_form r ≡ Num n place →
         IsSubtype (number_type n) T → PatternFits T r []
-    record_of : {T : CType} {r : Pattern} {fs : List (PatternField Pattern)} {gs : List (List ℕ × CType)} {place : Place} {Γ : Scope} →
+    record_of : {T : CType} {r : Pattern} {fs : List (PatternField Pattern)} {gs : FieldTypes} {place : Place} {Γ : Scope} →
         pattern_form r ≡ Fields fs place → out-CType T ≡ CType-F.Record gs → FieldsFit gs fs Γ →
         PatternFits T r Γ
 
@@ -78,12 +83,9 @@ mutual
     more : {T : CType} {Ts : List CType} {p : Pattern} {ps : List Pattern} {Γ Δ : Scope} →
         PatternFits T p Γ → EachFits Ts ps Δ → EachFits (T ∷ Ts) (p ∷ ps) (Γ ++ Δ)
 
-  -- the patterns of named labels fit their types; of a, b = p both do
-  pub data FieldsFit : List (List ℕ × CType) → List (PatternField Pattern) → Scope → Type 0 where
-    no_field : {gs : List (List ℕ × CType)} → FieldsFit gs [] []
-    field_done : {gs : List (List ℕ × CType)} {p : Pattern} {fs : List (PatternField Pattern)} {Δ : Scope} →
-        FieldsFit gs fs Δ → FieldsFit gs (record { labels = []; pattern = p } ∷ fs) Δ
-    field : {gs : List (List ℕ × CType)} {l : List ℕ} {ls : List (List ℕ)} {p : Pattern} {fs : List (PatternField Pattern)} {T : CType} {Γ Δ : Scope} →
-        field_of l gs ≡ Some T → PatternFits T p Γ →
-        FieldsFit gs (record { labels = ls; pattern = p } ∷ fs) Δ →
-        FieldsFit gs (record { labels = l ∷ ls; pattern = p } ∷ fs) (Γ ++ Δ)
+  -- the patterns of named labels fit their types
+  pub data FieldsFit : FieldTypes → List (PatternField Pattern) → Scope → Type 0 where
+    no_field : {gs : FieldTypes} → FieldsFit gs [] []
+    field : {gs : FieldTypes} {l : List ℕ} {p : Pattern} {fs : List (PatternField Pattern)} {T : CType} {Γ Δ : Scope} →
+        field_of l gs ≡ Some T → PatternFits T p Γ → FieldsFit gs fs Δ →
+        FieldsFit gs (record { labels = l ∷ []; pattern = p } ∷ fs) (Γ ++ Δ)

@@ -1,5 +1,5 @@
 -- Concrete types, terms and typed terms as typing makes them, form by form.
-use Rattle.std.specs.Prelude.{ℕ, suc, List, [], ◌∷◌, ◌++◌, Option, Some, None, bytes_eq, codes, if◌then◌else◌}
+use Rattle.std.specs.Prelude.{ℕ, suc, List, [], ◌∷◌, ◌++◌, map, flat_map, Option, Some, None, bytes_eq, codes, if◌then◌else◌}
 use Rattle.gft_core.specs.declared.place.Place.{Place}
 use Rattle.gft_syntax.specs.declared.bind.Bind.{Bind}
 use Rattle.gft_syntax.specs.declared.bind.Bind.TheVariants.{Variable, Nothing}
@@ -17,9 +17,22 @@ use Rattle.gft_syntax.specs.declared.pattern.Pattern.TheOpen as Pattern-F
 use Rattle.gft_syntax.specs.declared.term.Term.{Term, out-Term}
 use Rattle.gft_syntax.specs.declared.term.Term.TheOpen as Term-F
 use Rattle.gft_syntax.specs.declared.term.Local.{Local}
-use Rattle.gft_syntax.specs.declared.term.Local.TheVariants.{Value}
+use Rattle.gft_syntax.specs.declared.term.Local.TheVariants.{Value, Label, TypedValue}
 use Rattle.gft_model.specs.Matching.{tuple_label}
 use Rattle.gft_model.specs.Values.{extended}
+
+-- labels with their types, and with their typed terms; branches; the names of locals with their terms
+abbrev pub FieldTypes : Type 0
+FieldTypes = List (List ℕ × CType)
+
+abbrev pub FieldTerms : Type 0
+FieldTerms = List (List ℕ × LinTerm)
+
+abbrev pub BranchTerms : Type 0
+BranchTerms = List (Pattern × LinTerm)
+
+abbrev pub LocalTerms : Type 0
+LocalTerms = List (List (List ℕ) × LinTerm)
 
 abbrev pub str_type : CType
 str_type = roll-CType CType-F.Str
@@ -58,12 +71,19 @@ abbrev pub tuple_locals : ℕ → List Term → List (Local Term)
 tuple_locals n [] = []
 tuple_locals n (e ∷ es) = Value (tuple_label n ∷ []) e ∷ tuple_locals (suc n) es
 
+-- x, y = e as x = e ; y = e
+abbrev pub one_by_one : {A : Type 0} → Local A → List (Local A)
+one_by_one (Value xs e) = map (λ x. Value (x ∷ []) e) xs
+one_by_one (Label xs t) = map (λ x. Label (x ∷ []) t) xs
+one_by_one (TypedValue xs t e) = map (λ x. TypedValue (x ∷ []) t e) xs
+
 -- the form of a term without other spellings: [C] is a name, [] the literal of no words, a | b is
--- variants {a ; b}, and a tuple is the record of its items
+-- variants {a ; b}, each field has one label, and a tuple is the record of its items
 abbrev pub plain_form : Layer → Layer
 plain_form (Term-F.ListCat (WholeName w) place) = Term-F.Var (WholeName w) place
 plain_form (Term-F.Empty place) = Term-F.Lit [] place
 plain_form (Term-F.Alt a b place) = Term-F.Variants (a ∷ b ∷ []) place
+plain_form (Term-F.Fields ls place) = Term-F.Fields (flat_map one_by_one ls) place
 plain_form (Term-F.Tuple es place) = Term-F.Fields (tuple_locals 0 es) place
 plain_form d = d
 
