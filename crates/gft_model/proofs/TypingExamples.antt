@@ -111,7 +111,7 @@ is_function d = false
 not_covered : ¬ Covers number_of (name (codes "Sg") ∷ [])
 not_covered h =
     let k : list_all (λ v. list_any (λ p. is_matched (match_of p (parameter v))) (name (codes "Sg") ∷ [])) (values_of number_of) ≡ false
-        = simp (fold-roll-CType, match-roll, out-roll-Param) in
+    = simp (fold-roll-CType, match-roll, out-roll-Param) in
     let e : false ≡ true = sym k ∙ h in cc
 
 module _ (items : List Item) where
@@ -139,7 +139,7 @@ module _ (items : List Item) where
   record_is_cut = record_given (form-roll _) (out-roll-CType _)
       (value_given refl (literal_fits (codes "a")) (value_found refl (number (form-roll _)) (data_of _ (C.Ints 0) (out-roll-CType _) refl) no_field))
       (cut (λ e. let h = out-roll-CType (C.Record large_fields) in let k = out-roll-CType (C.Record small_fields) in let i = ap out-CType e in cc)
-           (fewer_labels (out-roll-CType _) (out-roll-CType _) (label refl equal no_label)))
+      (fewer_labels (out-roll-CType _) (out-roll-CType _) (label refl equal no_label)))
 
   -- table {Sg => "a" ; Pl => "b"} fits Number => Str
   pub table_fits : Checks items [] (table_of (branch_of (codes "Sg") (codes "a") ∷ branch_of (codes "Pl") (codes "b") ∷ [])) (table_type number_of str_type)
@@ -168,7 +168,7 @@ module _ (items : List Item) where
   two_fits : Checks items [] (roll-Term (F.Num 2 nowhere)) (number_type greatest) (made (L.Cut (made (L.Num 2)) (number_type 2) (number_type greatest)))
   two_fits = found (ap (λ d. passes d (out-CType (number_type greatest))) (form-roll _)) (number (form-roll _))
       (cut (λ e. let h = out-roll-CType (C.Ints 2) in let k = out-roll-CType (C.Ints greatest) in let i = ap out-CType e in cc)
-           (numbers (out-roll-CType _) (out-roll-CType _) (omega arith)))
+      (numbers (out-roll-CType _) (out-roll-CType _) (omega arith)))
 
   pub dp_is_str : Finds items [] (apply (apply dp (roll-Term (F.Num 2 nowhere))) (word (codes "flies"))) str_type
       (made (L.App (made (L.App (predef_term Dp nowhere) (made (L.Cut (made (L.Num 2)) (number_type 2) (number_type greatest))))) (words (codes "flies"))))
@@ -208,7 +208,13 @@ second_on t u = made (L.App (made (L.App (made (L.Oper 1)) t)) u)
 
 suits_second : (t u : LinTerm) → Suits overload (whole (codes "f")) (str_type ∷ str_type ∷ []) (t ∷ u ∷ []) 1 str_type (second_on t u)
 suits_second t u = record {
-  before = None; binds = []; written = two_words; definition = zero_term; its_type = from_str (from_str str_type); stands = refl; is_type = two_is;
+  before = None;
+  binds = [];
+  written = two_words;
+  definition = zero_term;
+  its_type = from_str (from_str str_type);
+  stands = refl;
+  is_type = two_is;
   taken = takes (out-roll-CType _) same (takes (out-roll-CType _) same (takes_none (str_data overload)));
 }
 

@@ -281,18 +281,21 @@ module _ (items : List Item) where
       application : {Γ : Scope} {e f a : Term} {es : List Term} {F R : CType} {t u : LinTerm} →
           Spine e [] f (a ∷ es) → Finds Γ f F t → IsHead f → ChecksArguments Γ F t (a ∷ es) R u →
           Finds Γ e R u
-      overloaded : {Γ : Scope} {e f a : Term} {es : List Term} {w : Whole} (k : ℕ) {p : Place} {As : List CType} {us : List LinTerm} {R : CType} {u : LinTerm} →
+      overloaded : {Γ : Scope} {e f a : Term} {es : List Term} {w : Whole} (k : ℕ) {p : Place}
+          {As : List CType} {us : List LinTerm} {R : CType} {u : LinTerm} →
           Spine e [] f (a ∷ es) → form f ≡ Term-F.Var (WholeName w) p → Stands w an_overload →
           FindsAll Γ (a ∷ es) As us → Chosen w As us k R u → Finds Γ e R u
       selection : {Γ : Scope} {e a b : Term} {p : Place} {S P V : CType} {t u : LinTerm} →
           form e ≡ Term-F.Select a b p → is_table_expression (form a) ≡ false →
           Finds Γ a S t → out-CType S ≡ CType-F.Table P V → Checks Γ b P u →
           Finds Γ e V (made (Lin-F.Select t u))
-      branch_over : {Γ : Scope} {e a b P : Term} {cs : List (Case Term)} {p q : Place} {S V : CType} {u : LinTerm} {bs : BranchTerms} →
+      branch_over : {Γ : Scope} {e a b P : Term} {cs : List (Case Term)} {p q : Place} {S V : CType}
+          {u : LinTerm} {bs : BranchTerms} →
           form e ≡ Term-F.Select a b p → form a ≡ Term-F.TableOf (Some P) cs q → IsType P S →
           BranchesFind Γ S cs V bs → IsCovered S (patterns cs) → Checks Γ b S u →
           Finds Γ e V (made (Lin-F.Case u (Matched bs) p))
-      branch_of : {Γ : Scope} {e a b : Term} {cs : List (Case Term)} {p q : Place} {S V : CType} {u : LinTerm} {bs : BranchTerms} →
+      branch_of : {Γ : Scope} {e a b : Term} {cs : List (Case Term)} {p q : Place} {S V : CType} {u : LinTerm}
+          {bs : BranchTerms} →
           form e ≡ Term-F.Select a b p → form a ≡ Term-F.TableOf None cs q → Finds Γ b S u →
           BranchesFind Γ S cs V bs → IsCovered S (patterns cs) →
           Finds Γ e V (made (Lin-F.Case u (Matched bs) p))
@@ -344,7 +347,8 @@ module _ (items : List Item) where
           form e ≡ Term-F.TableList D es p → out-CType T ≡ CType-F.Table P V → IsType D P →
           MembersCheck Γ es V ts → count_of P ≤ length es →
           Checks Γ e T (made (Lin-F.Table P (Listed P ts)))
-      record_given : {Γ : Scope} {e : Term} {ls : List (Local Term)} {p : Place} {T : CType} {fs gs : FieldTypes} {ts : FieldTerms} {t : LinTerm} →
+      record_given : {Γ : Scope} {e : Term} {ls : List (Local Term)} {p : Place} {T : CType}
+          {fs gs : FieldTypes} {ts : FieldTerms} {t : LinTerm} →
           form e ≡ Term-F.Fields ls p → out-CType T ≡ CType-F.Record gs →
           FieldsHave Γ gs ls fs ts → Fits (record_type fs) T (made (Lin-F.Record ts)) t →
           Checks Γ e T t
@@ -359,7 +363,8 @@ module _ (items : List Item) where
           Checks Γ e T (made (Lin-F.Variants ts))
       empty_type : {Γ : Scope} {e : Term} {p : Place} → form e ≡ Term-F.Fields [] p →
           Checks Γ e sort_type no_value
-      parameter_given : {Γ : Scope} {e : Term} {w c : Whole} {ds : List (Whole × List CType)} {p : Place} {T : CType} {t : LinTerm} →
+      parameter_given : {Γ : Scope} {e : Term} {w c : Whole} {ds : List (Whole × List CType)} {p : Place}
+          {T : CType} {t : LinTerm} →
           form e ≡ Term-F.Var (WholeName w) p → Finds Γ e sort_type t → IsType e T →
           out-CType T ≡ CType-F.Param c ds → Checks Γ e sort_param t
       found : {Γ : Scope} {e : Term} {S T : CType} {t u : LinTerm} →
@@ -448,6 +453,7 @@ module _ (items : List Item) where
       local : {Γ Δ : Scope} {xs : List (List ℕ)} {e : Term} {ls : List (Local Term)} {ds : LocalTerms} {T : CType} {t : LinTerm} →
           Finds Γ e T t → IsData T → Defines (with_names xs T Γ) ls Δ ds →
           Defines Γ (Value xs e ∷ ls) Δ ((xs, t) ∷ ds)
-      typed_local : {Γ Δ : Scope} {xs : List (List ℕ)} {e D : Term} {ls : List (Local Term)} {ds : LocalTerms} {T : CType} {t : LinTerm} →
+      typed_local : {Γ Δ : Scope} {xs : List (List ℕ)} {e D : Term} {ls : List (Local Term)} {ds : LocalTerms}
+          {T : CType} {t : LinTerm} →
           IsType D T → IsData T → Checks Γ e T t → Defines (with_names xs T Γ) ls Δ ds →
           Defines Γ (TypedValue xs D e ∷ ls) Δ ((xs, t) ∷ ds)

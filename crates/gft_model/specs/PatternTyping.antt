@@ -56,7 +56,8 @@ mutual
         PatternFits T r Γ
     sequence : {r p q : Pattern} {place : Place} {Γ Δ : Scope} → pattern_form r ≡ Seq p q place →
         PatternFits str_type p Γ → PatternFits str_type q Δ → PatternFits str_type r (Γ ++ Δ)
-    constructor_with : {T : CType} {r : Pattern} {m : Option (List ℕ)} {c : Whole} {ps : List Pattern} {place : Place} {Ts : List CType} {Γ : Scope} →
+    constructor_with : {T : CType} {r : Pattern} {m : Option (List ℕ)} {c : Whole} {ps : List Pattern}
+        {place : Place} {Ts : List CType} {Γ : Scope} →
         pattern_form r ≡ Con m (WholeName c) ps place → Constructs c Ts T → EachFits Ts ps Γ →
         PatternFits T r Γ
     repeated : {r p : Pattern} {place : Place} → pattern_form r ≡ Star p place →
