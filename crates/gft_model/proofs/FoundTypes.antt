@@ -303,7 +303,7 @@ module _ (items : List Item) where
   check_form_is (parameter_given a0 a1 a2 a3) = a0
   check_form_is (found a0 a1 a2) = refl
 
-  fields-empty : {Γ : Scope} {gs fs : List (List ℕ × CType)} {ls : List (Local Term)} {ts : List (List ℕ × LinTerm)} → FieldsHave items Γ gs ls fs ts → ls ≡ [] → fs ≡ []
+  pub fields-empty : {Γ : Scope} {gs fs : List (List ℕ × CType)} {ls : List (Local Term)} {ts : List (List ℕ × LinTerm)} → FieldsHave items Γ gs ls fs ts → ls ≡ [] → fs ≡ []
   fields-empty no_field e = refl
   fields-empty (value_given a0 a1 a2) e = cc
   fields-empty (value_found a0 a1 a2 a3) e = cc

@@ -1,7 +1,7 @@
 -- Worked examples of the strings of trees: Dup A, where Dup says its argument twice and A is a choice,
 -- and Age with a literal and with a hole.
-use Rattle.std.proofs.Common.{◌≡◌, ℕ, List, [], ◌∷◌, ◌++◌, Option, Some, arith}
-use Rattle.std.specs.Prelude.{codes, decimal}
+use Rattle.std.proofs.Common.{◌≡◌, ap, subst, ℕ, zero, suc, Bool, true, false, List, [], ◌∷◌, ◌++◌, Option, Some, arith}
+use Rattle.std.specs.Prelude.{codes, decimal, bytes_eq, Contains, ◌&&◌}
 use Rattle.std.proofs.lemmas.Fmt.{decimal_digit}
 use Rattle.gft_core.specs.declared.place.Place.{Place}
 use Rattle.gft_core.specs.declared.tree.Tree.{Tree, roll-Tree}
@@ -101,6 +101,20 @@ apply f ts = roll-Tree (Tree-F.App f ts)
 pub said_twice : strings_of twice (codes "TwiceEng") [] (apply (codes "Dup") (apply (codes "A") [] ∷ []))
     ≡ (codes "a" ∷ codes "a" ∷ []) ∷ (codes "b" ∷ codes "b" ∷ []) ∷ []
 said_twice = simp (out-roll-Tree, fold-roll-Term, tree-roll, results-roll, out-roll-Value, numbered_value-roll, string_leaves-roll, first_string-roll)
+
+-- so a b is not among them
+abbrev ends_in_b : List (List ℕ) → Bool
+ends_in_b (u ∷ v ∷ []) = bytes_eq u (codes "a") && bytes_eq v (codes "b")
+ends_in_b ws = false
+
+none_of_two : ¬ Contains ((codes "a" ∷ codes "a" ∷ []) ∷ (codes "b" ∷ codes "b" ∷ []) ∷ []) (codes "a" ∷ codes "b" ∷ [])
+none_of_two (zero, b, e) = let k : false ≡ true = ap ends_in_b e in cc
+none_of_two (suc zero, b, e) = let k : false ≡ true = ap ends_in_b e in cc
+none_of_two (suc (suc n), b, e) = omega (arith, b)
+
+pub not_mixed : ¬ Contains (strings_of twice (codes "TwiceEng") [] (apply (codes "Dup") (apply (codes "A") [] ∷ []))) (codes "a" ∷ codes "b" ∷ [])
+not_mixed h =
+    none_of_two (subst (λ (ws : List (List (List ℕ))). Contains ws (codes "a" ∷ codes "b" ∷ [])) said_twice h)
 
 -- its one bracket at the root holds two of the argument, each with the word
 abbrev pub around_a : List ℕ → List Piece

@@ -1,6 +1,6 @@
 -- Worked examples of typing: a word, a record that is cut, a table, an overload, a Predef function.
 use Rattle.std.proofs.Common.{◌≡◌, refl, ap, sym, ◌∙◌, ℕ, zero, suc, List, [], ◌∷◌, Option, Some, None, Bool, true, false, subst, arith}
-use Rattle.std.specs.Prelude.{codes, IsTrue, slice_get}
+use Rattle.std.specs.Prelude.{codes, bytes_eq}
 use Rattle.std.specs.List.{list_all, list_any}
 use Rattle.gft_core.specs.declared.place.Place.{Place}
 use Rattle.gft_core.specs.Words.{words_of}
@@ -18,19 +18,20 @@ use Rattle.gft_syntax.specs.declared.value.Param.TheViews.{out-roll-Param}
 use Rattle.gft_syntax.specs.declared.reference.Reference.TheVariants.{Written, Whole as WholeName}
 use Rattle.gft_syntax.specs.declared.reference.Whole.{Whole}
 use Rattle.gft_syntax.specs.declared.term.Case.{Case}
+use Rattle.gft_syntax.specs.declared.term.Local.{Local}
 use Rattle.gft_syntax.specs.declared.term.Local.TheVariants.{Value}
 use Rattle.gft_syntax.specs.declared.term.Sort.TheVariants as Sort
 use Rattle.gft_syntax.specs.declared.term.Term.{Term, roll-Term}
 use Rattle.gft_syntax.specs.declared.term.Term.TheOpen as F
-use Rattle.gft_model.specs.ConcreteTypes.{IsSubtype, fewer_labels, numbers, label, no_label, equal, values_of}
-use Rattle.gft_model.specs.ConcreteTyping.{IsData, IsType, Finds, Checks, Covers, patterns, passes, IsHead, Spine, Takes, takes, takes_none, Suits, Chosen, overloaded, Stands, an_overload, text_type, function_from, next_found, none_found, found, append, literal, number, same, cut, predef, application, applied_to, at_head, next_argument, no_argument_left, record_given, value_given, value_found, no_field, branches, branch, no_branch}
+use Rattle.gft_model.specs.ConcreteTypes.{IsSubtype, HasLabels, field_of, fewer_labels, tables, numbers, functions, label, no_label, equal, values_of}
+use Rattle.gft_model.specs.ConcreteTyping.{empty_type, sort, Fits, FieldsHave, is_record, typed_given, typed_alone, IsData, IsType, Finds, Checks, Covers, patterns, passes, IsHead, Spine, Takes, takes, takes_none, Suits, Chosen, overloaded, Stands, an_overload, text_type, function_from, next_found, none_found, found, append, literal, number, same, cut, predef, application, applied_to, at_head, next_argument, no_argument_left, record_given, value_given, value_found, no_field, branches, branch, no_branch}
 use Rattle.gft_model.specs.Items.{Item, alternative}
 use Rattle.gft_model.specs.Matching.{match_of, is_matched, parameter}
 use Rattle.gft_model.specs.PatternTyping.{pattern_form, no_more, Scope, PatternFits, Constructs, arguments_of, sequence, variable, literal as text_literal, constructor_with}
-use Rattle.gft_model.specs.TypeForms.{form, str_type, number_type, table_type, function_type, predef_type, predef_term, greatest, made}
+use Rattle.gft_model.specs.TypeForms.{FieldTypes, FieldTerms, record_type, form, str_type, number_type, table_type, function_type, predef_type, predef_term, greatest, made}
 use Rattle.gft_model.proofs.Computing.{form-roll, pattern_form-roll, match-roll}
 use Rattle.gft_model.proofs.TypeLaws.{type-once}
-use Rattle.gft_model.proofs.FoundTypes.{find-once, check_form, check_form_is, same-tag, apart-tags}
+use Rattle.gft_model.proofs.FoundTypes.{find-once, fields-empty, check_form, check_form_is, same-tag, apart-tags}
 use Rattle.gft_model.proofs.PatternLaws.{form_of, form_is}
 
 abbrev nowhere : Place
@@ -90,6 +91,33 @@ large = roll-CType (C.Record large_fields)
 abbrev zero_term : Term
 zero_term = roll-Term (F.Num 0 nowhere)
 
+-- {n = 0}
+abbrev n_alone : List (Local Term)
+n_alone = Value (codes "n" ∷ []) zero_term ∷ []
+
+no_s : (U : CType) {fs gs : FieldTypes} → HasLabels fs gs → fs ≡ (codes "n", U) ∷ [] → gs ≡ small_fields → ⊥
+no_s U no_label f g = cc
+no_s U (label {fs = fs} {l = l} {S = S} {T = T} e s h) f g =
+    let q : (l, T) ≡ (codes "s", str_type) = cc in
+    let x : l ≡ codes "s" = ap (λ (p : List ℕ × CType). p.0) q in
+    let k : None ≡ Some S = sym (ap (λ (k : List ℕ). field_of k fs) x ∙ ap (field_of (codes "s")) f) ∙ e in cc
+
+abbrev starts_with_n : FieldTypes → Bool
+starts_with_n [] = false
+starts_with_n (f ∷ fs) = bytes_eq f.0 (codes "n")
+
+not_fitting : (U : CType) {S T : CType} {t u : LinTerm} → Fits S T t u → out-CType S ≡ C.Record ((codes "n", U) ∷ []) → out-CType T ≡ C.Record small_fields → ⊥
+not_fitting U same k h =
+    let i : (codes "n", U) ∷ [] ≡ small_fields = cc in
+    let j : true ≡ false = ap starts_with_n i in cc
+not_fitting U (cut n equal) k h = absurd (n refl)
+not_fitting U (cut n (fewer_labels {fs = fs} {gs = gs} a b c)) k h =
+    let f : fs ≡ (codes "n", U) ∷ [] = cc in let g : gs ≡ small_fields = cc in no_s U c f g
+not_fitting U (cut n (tables a b c)) k h = cc
+not_fitting U (cut n (numbers a b c)) k h = cc
+not_fitting U (cut n (functions a b c d)) k h = cc
+not_fitting U sort k h = let i = out-roll-CType C.ParamSort in cc
+
 -- table {x => "w" ; ..}
 abbrev branch_of : List ℕ → List ℕ → Case Term
 branch_of x w = record { pattern = name x; body = word w }
@@ -140,6 +168,23 @@ module _ (items : List Item) where
       (value_given refl (literal_fits (codes "a")) (value_found refl (number (form-roll _)) (data_of _ (C.Ints 0) (out-roll-CType _) refl) no_field))
       (cut (λ e. let h = out-roll-CType (C.Record large_fields) in let k = out-roll-CType (C.Record small_fields) in let i = ap out-CType e in cc)
       (fewer_labels (out-roll-CType _) (out-roll-CType _) (label refl equal no_label)))
+
+  -- {n = 0} does not fit it: s is lacking
+  only_n : {Γ : Scope} {gs fs : FieldTypes} {ls : List (Local Term)} {ts : FieldTerms} → FieldsHave items Γ gs ls fs ts → ls ≡ n_alone → (U : CType) × (fs ≡ (codes "n", U) ∷ [])
+  only_n no_field h = absurd (cc)
+  only_n (value_given {x = x} {T = T} a b c) h = let k : x ≡ codes "n" = cc in let j = fields-empty items c (cc) in (T, cc)
+  only_n (value_found {x = x} {T = T} a b c d) h = let k : x ≡ codes "n" = cc in let j = fields-empty items d (cc) in (T, cc)
+  only_n (typed_given a b c d x) h = absurd (cc)
+  only_n (typed_alone a b c d x) h = absurd (cc)
+
+  pub record_lacks_s : {T : CType} {t : LinTerm} → Checks items [] (roll-Term (F.Fields n_alone nowhere)) T t → out-CType T ≡ C.Record small_fields → ⊥
+  record_lacks_s {T = T} {t = t} (record_given {ls = ls} {fs = fs} {ts = ts} a b c d) h =
+      let k = form-roll (F.Fields n_alone nowhere) in let l : ls ≡ n_alone = cc in let u = only_n c l in
+      not_fitting u.0 (subst (λ (gs : FieldTypes). Fits (record_type gs) T (made (L.Record ts)) t) u.1 d) (out-roll-CType _) h
+  record_lacks_s {T = T} (found a b c) h =
+      let k : false ≡ true = sym a ∙ ap (λ d. passes d (out-CType T)) (form-roll _) ∙ ap is_record h in cc
+  record_lacks_s (empty_type a) h = let k = out-roll-CType C.TypeSort in cc
+  record_lacks_s d h = absurd (apart-tags _ _ refl (same-tag (form-roll _) refl (check_form_is items d)))
 
   -- table {Sg => "a" ; Pl => "b"} fits Number => Str
   pub table_fits : Checks items [] (table_of (branch_of (codes "Sg") (codes "a") ∷ branch_of (codes "Pl") (codes "b") ∷ [])) (table_type number_of str_type)
