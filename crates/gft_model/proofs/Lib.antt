@@ -5,6 +5,7 @@ pub mod MatchExamples
 pub mod TypeExamples
 pub mod SourceExamples
 pub mod TermTreeExamples
+pub mod CaseLaws
 pub mod ProductionExamples
 pub mod ItemExamples
 pub mod TypingExamples

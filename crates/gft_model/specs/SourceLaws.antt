@@ -1,15 +1,16 @@
 -- Laws of the definitions over sources, each the clause of a function.
-use Rattle.std.specs.Prelude.{◌≡◌, ℕ, List, [], ◌∷◌, ◌++◌, length}
+use Rattle.std.specs.Prelude.{◌≡◌, ℕ, List, [], ◌∷◌, ◌++◌, map, length}
 use Rattle.gft_syntax.specs.declared.ctype.CType.{CType}
 use Rattle.gft_syntax.specs.declared.linear.LinTerm.{LinTerm, roll-LinTerm}
 use Rattle.gft_syntax.specs.declared.linear.LinTerm.TheOpen as Lin-F
 use Rattle.gft_syntax.specs.declared.pattern.Pattern.{Pattern}
 use Rattle.gft_syntax.specs.declared.term.Term.{Term}
 use Rattle.gft_syntax.specs.declared.token.SourceToken.{SourceToken}
-use Rattle.gft_model.specs.ConcreteTypes.{values_of, count_of}
+use Rattle.gft_model.specs.ConcreteTypes.{values_of, count_of, cases_of}
 use Rattle.gft_model.specs.ConcreteTyping.{IsType, Finds, Checks}
 use Rattle.gft_model.specs.Items.{Item}
 use Rattle.gft_model.specs.PatternTyping.{Scope, PatternFits}
+use Rattle.gft_model.specs.Productions.{case_values, case_of}
 use Rattle.gft_model.specs.Outcomes.{Results, Environment, outcomes_of}
 use Rattle.gft_model.specs.Source.{Tokens}
 
@@ -31,6 +32,10 @@ NoVariants = (opers : ℕ → Results) (env : Environment) → outcomes_of opers
 -- a type has as many parameter values as are counted
 abbrev pub ValuesAreCounted : Type 0
 ValuesAreCounted = (T : CType) → length (values_of T) ≡ count_of T
+
+-- the values of an argument go through the cases of its type in order
+abbrev pub CasesAreInOrder : Type 0
+CasesAreInOrder = (i : ℕ) (T : CType) → map case_of (case_values i T) ≡ cases_of T
 
 -- a pattern fits a type with at most one scope
 abbrev pub PatternFitsOnce : Type 0

@@ -1,5 +1,5 @@
 //! Laws of the definitions over sources. Each function does nothing; its clause is the law.
-ghost use Rattle.gft_model.specs.SourceLaws.{TokensAreDetermined, AlternativesInOrder, NoVariants, ValuesAreCounted, PatternFitsOnce, WrittenTypeIsDetermined, FoundTypeIsDetermined, MeaningIsDetermined};
+ghost use Rattle.gft_model.specs.SourceLaws.{TokensAreDetermined, AlternativesInOrder, NoVariants, ValuesAreCounted, CasesAreInOrder, PatternFitsOnce, WrittenTypeIsDetermined, FoundTypeIsDetermined, MeaningIsDetermined};
 
 /// A file has at most one list of tokens.
 pub fn tokens_are_determined()
@@ -19,6 +19,12 @@ pub fn no_variants()
 /// A type has as many parameter values as are counted.
 pub fn values_are_counted()
     ensures { ValuesAreCounted }
+{}
+
+/// The values of an argument go through the cases of its type in order, and numbering their string
+/// leaves changes no case.
+pub fn cases_are_in_order()
+    ensures { CasesAreInOrder }
 {}
 
 /// A pattern fits a type with at most one scope.
