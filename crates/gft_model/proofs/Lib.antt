@@ -6,6 +6,7 @@ pub mod TypeExamples
 pub mod SourceExamples
 pub mod TermTreeExamples
 pub mod CaseLaws
+pub mod JudgementLaws
 pub mod ProductionExamples
 pub mod ItemExamples
 pub mod TypingExamples

@@ -4,6 +4,7 @@ use Rattle.gft_syntax.specs.declared.ctype.CType.{CType, roll-CType}
 use Rattle.gft_syntax.specs.declared.ctype.CType.TheOpen as CType-F
 use Rattle.gft_syntax.specs.declared.flat.Flat.{Flat}
 use Rattle.gft_syntax.specs.declared.flat.FlatJudgement.{FlatJudgement}
+use Rattle.gft_syntax.specs.declared.judgement.Constructor.{Constructor}
 use Rattle.gft_syntax.specs.declared.judgement.Judgement.{Judgement}
 use Rattle.gft_syntax.specs.declared.judgement.Judgement.TheVariants as Judgement-V
 use Rattle.gft_syntax.specs.declared.linear.LinTerm.{LinTerm}
@@ -15,7 +16,7 @@ use Rattle.gft_syntax.specs.declared.term.Term.{Term}
 use Rattle.gft_syntax.specs.declared.term.Term.TheOpen as Term-F
 use Rattle.gft_syntax.specs.declared.term.Term.TheFolds.{fold-Term}
 use Rattle.gft_model.specs.ConcreteTyping.{At, IsType, IsParameter, IsData, Finds, Checks, for_each}
-use Rattle.gft_model.specs.Items.{items_of, parameter_type, bare_parameter, oper, alternative, lincat, lin, lindef, linref}
+use Rattle.gft_model.specs.Items.{Item, items_of, parameter_type, bare_parameter, oper, alternative, lincat, lin, lindef, linref}
 use Rattle.gft_model.specs.Resting.{NoCycle}
 use Rattle.gft_model.specs.TypeForms.{str_type, record_type, function_type, functions, sort_type, sort_param, made, no_value}
 
@@ -65,68 +66,68 @@ signature_in (j ∷ js) f = if bytes_eq f j.whole.name then Some (signature_give
 abbrev pub literal_type : CType
 literal_type = record_type ((codes "s", str_type) ∷ [])
 
--- the linearization type of a category in a language
-pub data HasLinType (flat : Flat) (lang : List ℕ) : List ℕ → CType → Type 0 where
-  of_int : HasLinType flat lang (codes "Int") literal_type
-  of_string : HasLinType flat lang (codes "String") literal_type
-  of_category : {w : Whole} {e : Term} {T : CType} →
-      Contains (items_of flat) (lincat lang w e) → IsType (items_of flat) e T → IsData T →
-      HasLinType flat lang w.name T
-
--- those of several categories
-pub data HaveLinTypes (flat : Flat) (lang : List ℕ) : List (List ℕ) → List CType → Type 0 where
-  no_more : HaveLinTypes flat lang [] []
-  more : {C : List ℕ} {Cs : List (List ℕ)} {T : CType} {Ts : List CType} →
-      HasLinType flat lang C T → HaveLinTypes flat lang Cs Ts →
-      HaveLinTypes flat lang (C ∷ Cs) (T ∷ Ts)
-
 -- a sort: such a type is that of a type
 abbrev pub IsSort : CType → Type 0
 IsSort S = (S ≡ sort_type) ⊎ (S ≡ sort_param)
 
--- what is written before the word overload, where something is, is a type
-pub data IsWritten (flat : Flat) : Option Term → Type 0 where
-  nothing_written : IsWritten flat None
-  type_written : {e : Term} {T : CType} → IsType (items_of flat) e T → IsWritten flat (Some e)
+module _ (flat : Flat) where
+  -- its numbered judgements
+  abbrev pub items : List Item
+  items = items_of flat
 
--- the judgement of that number means the typed term, which has the type; one that names a type
--- means the empty record and has that type; an oper without definition has no outcome, and a parameter
--- type without constructors no value
-pub data IsTyped (flat : Flat) : ℕ → LinTerm → CType → Type 0 where
-  of_parameter : {w : Whole} (k : ℕ) {cs : _} {T : CType} →
-      At (items_of flat) k (parameter_type w cs) → IsParameter (items_of flat) w T →
-      IsTyped flat k no_value T
-  of_bare_parameter : {w : Whole} (k : ℕ) → At (items_of flat) k (bare_parameter w) →
-      IsTyped flat k no_value (roll-CType (CType-F.Param w []))
-  of_named_type : {w : Whole} (k : ℕ) {D d : Term} {S T : CType} {t : LinTerm} →
-      At (items_of flat) k (oper w (Some D) (Some d)) → IsType (items_of flat) D S → IsSort S →
-      Checks (items_of flat) [] d S t → IsType (items_of flat) d T → NoCycle (items_of flat) w →
-      IsTyped flat k no_value T
-  of_typed_oper : {w : Whole} (k : ℕ) {D d : Term} {T : CType} {t : LinTerm} →
-      At (items_of flat) k (oper w (Some D) (Some d)) → IsType (items_of flat) D T → ¬ (IsSort T) →
-      Checks (items_of flat) [] d T t → NoCycle (items_of flat) w → IsTyped flat k t T
-  of_declared_oper : {w : Whole} (k : ℕ) {D : Term} {T : CType} →
-      At (items_of flat) k (oper w (Some D) None) → IsType (items_of flat) D T →
-      IsTyped flat k (made (Lin-F.Variants [])) T
-  of_found_type : {w : Whole} (k : ℕ) {d : Term} {S T : CType} {t : LinTerm} →
-      At (items_of flat) k (oper w None (Some d)) → Finds (items_of flat) [] d S t → IsSort S →
-      IsType (items_of flat) d T → NoCycle (items_of flat) w → IsTyped flat k no_value T
-  of_found_oper : {w : Whole} (k : ℕ) {d : Term} {T : CType} {t : LinTerm} →
-      At (items_of flat) k (oper w None (Some d)) → Finds (items_of flat) [] d T t → ¬ (IsSort T) →
-      NoCycle (items_of flat) w → IsTyped flat k t T
-  of_alternative : {w : Whole} (k : ℕ) {e : Option Term} {D d : Term} {T : CType} {t : LinTerm} →
-      At (items_of flat) k (alternative w e [] D d) → IsWritten flat e → IsType (items_of flat) D T →
-      Checks (items_of flat) [] d T t → NoCycle (items_of flat) w → IsTyped flat k t T
-  of_lincat : {lang : List ℕ} {w : Whole} (k : ℕ) {e : Term} {T : CType} →
-      At (items_of flat) k (lincat lang w e) → IsType (items_of flat) e T → IsData T →
-      IsTyped flat k no_value T
-  of_lin : {lang : List ℕ} {w : Whole} (k : ℕ) {e : Term} {s : Signature} {Ts : List CType} {T : CType} {t : LinTerm} →
-      At (items_of flat) k (lin lang w e) → signature_in flat.funs w.name ≡ Some s →
-      HaveLinTypes flat lang s.arguments Ts → HasLinType flat lang s.result T →
-      Checks (items_of flat) [] e (functions Ts T) t → IsTyped flat k t (functions Ts T)
-  of_lindef : {lang : List ℕ} {w : Whole} (k : ℕ) {e : Term} {T : CType} {t : LinTerm} →
-      At (items_of flat) k (lindef lang w e) → HasLinType flat lang w.name T →
-      Checks (items_of flat) [] e (function_type str_type T) t → IsTyped flat k t (function_type str_type T)
-  of_linref : {lang : List ℕ} {w : Whole} (k : ℕ) {e : Term} {T : CType} {t : LinTerm} →
-      At (items_of flat) k (linref lang w e) → HasLinType flat lang w.name T →
-      Checks (items_of flat) [] e (function_type T str_type) t → IsTyped flat k t (function_type T str_type)
+  -- the linearization type of a category in a language
+  pub data HasLinType (lang : List ℕ) : List ℕ → CType → Type 0 where
+    of_int : HasLinType lang (codes "Int") literal_type
+    of_string : HasLinType lang (codes "String") literal_type
+    of_category : {w : Whole} {e : Term} {T : CType} →
+        Contains items (lincat lang w e) → IsType items e T → IsData T → HasLinType lang w.name T
+
+  -- those of several categories
+  pub data HaveLinTypes (lang : List ℕ) : List (List ℕ) → List CType → Type 0 where
+    no_more : HaveLinTypes lang [] []
+    more : {C : List ℕ} {Cs : List (List ℕ)} {T : CType} {Ts : List CType} →
+        HasLinType lang C T → HaveLinTypes lang Cs Ts → HaveLinTypes lang (C ∷ Cs) (T ∷ Ts)
+
+  -- what is written before the word overload, where something is, is a type
+  pub data IsWritten : Option Term → Type 0 where
+    nothing_written : IsWritten None
+    type_written : {e : Term} {T : CType} → IsType items e T → IsWritten (Some e)
+
+  -- the judgement means the typed term, which has the type; one that names a type means the empty
+  -- record and has that type; an oper without definition has no outcome, and a parameter type without
+  -- constructors no value
+  pub data HasTyping : Item → LinTerm → CType → Type 0 where
+    parameter : {w : Whole} {cs : List Constructor} {T : CType} → IsParameter items w T →
+        HasTyping (parameter_type w cs) no_value T
+    undefined_parameter : {w : Whole} →
+        HasTyping (bare_parameter w) no_value (roll-CType (CType-F.Param w []))
+    named_type : {w : Whole} {D d : Term} {S T : CType} {t : LinTerm} → IsType items D S → IsSort S →
+        Checks items [] d S t → IsType items d T → NoCycle items w →
+        HasTyping (oper w (Some D) (Some d)) no_value T
+    typed_oper : {w : Whole} {D d : Term} {T : CType} {t : LinTerm} → IsType items D T → ¬ (IsSort T) →
+        Checks items [] d T t → NoCycle items w → HasTyping (oper w (Some D) (Some d)) t T
+    undefined_oper : {w : Whole} {D : Term} {T : CType} → IsType items D T →
+        HasTyping (oper w (Some D) None) (made (Lin-F.Variants [])) T
+    found_type : {w : Whole} {d : Term} {S T : CType} {t : LinTerm} → Finds items [] d S t → IsSort S →
+        IsType items d T → NoCycle items w → HasTyping (oper w None (Some d)) no_value T
+    found_oper : {w : Whole} {d : Term} {T : CType} {t : LinTerm} → Finds items [] d T t → ¬ (IsSort T) →
+        NoCycle items w → HasTyping (oper w None (Some d)) t T
+    of_overload : {w : Whole} {e : Option Term} {D d : Term} {T : CType} {t : LinTerm} → IsWritten e →
+        IsType items D T → Checks items [] d T t → NoCycle items w →
+        HasTyping (alternative w e [] D d) t T
+    linearization_type : {lang : List ℕ} {w : Whole} {e : Term} {T : CType} → IsType items e T → IsData T →
+        HasTyping (lincat lang w e) no_value T
+    linearization : {lang : List ℕ} {w : Whole} {e : Term} {s : Signature} {Ts : List CType} {T : CType} {t : LinTerm} →
+        signature_in flat.funs w.name ≡ Some s → HaveLinTypes lang s.arguments Ts →
+        HasLinType lang s.result T → Checks items [] e (functions Ts T) t →
+        HasTyping (lin lang w e) t (functions Ts T)
+    of_lindef : {lang : List ℕ} {w : Whole} {e : Term} {T : CType} {t : LinTerm} →
+        HasLinType lang w.name T → Checks items [] e (function_type str_type T) t →
+        HasTyping (lindef lang w e) t (function_type str_type T)
+    of_linref : {lang : List ℕ} {w : Whole} {e : Term} {T : CType} {t : LinTerm} →
+        HasLinType lang w.name T → Checks items [] e (function_type T str_type) t →
+        HasTyping (linref lang w e) t (function_type T str_type)
+
+  -- what typing gives for the judgement of that number
+  abbrev pub IsTyped : ℕ → LinTerm → CType → Type 0
+  IsTyped k t T = (i : Item) × At items k i × HasTyping i t T

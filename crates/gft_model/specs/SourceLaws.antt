@@ -1,14 +1,17 @@
 -- Laws of the definitions over sources, each the clause of a function.
-use Rattle.std.specs.Prelude.{◌≡◌, ℕ, List, [], ◌∷◌, ◌++◌, map, length}
+use Rattle.std.specs.Prelude.{◌≡◌, ◌≢◌, codes, Contains, ℕ, List, [], ◌∷◌, ◌++◌, map, length}
 use Rattle.gft_syntax.specs.declared.ctype.CType.{CType}
+use Rattle.gft_syntax.specs.declared.flat.Flat.{Flat}
 use Rattle.gft_syntax.specs.declared.linear.LinTerm.{LinTerm, roll-LinTerm}
 use Rattle.gft_syntax.specs.declared.linear.LinTerm.TheOpen as Lin-F
 use Rattle.gft_syntax.specs.declared.pattern.Pattern.{Pattern}
+use Rattle.gft_syntax.specs.declared.reference.Whole.{Whole}
 use Rattle.gft_syntax.specs.declared.term.Term.{Term}
 use Rattle.gft_syntax.specs.declared.token.SourceToken.{SourceToken}
 use Rattle.gft_model.specs.ConcreteTypes.{values_of, count_of, cases_of}
 use Rattle.gft_model.specs.ConcreteTyping.{IsType, Finds, Checks}
-use Rattle.gft_model.specs.Items.{Item}
+use Rattle.gft_model.specs.Items.{Item, lincat}
+use Rattle.gft_model.specs.JudgementTyping.{items, IsTyped}
 use Rattle.gft_model.specs.PatternTyping.{Scope, PatternFits}
 use Rattle.gft_model.specs.Productions.{case_values, case_of}
 use Rattle.gft_model.specs.Outcomes.{Results, Environment, outcomes_of}
@@ -56,3 +59,16 @@ abbrev pub MeaningIsDetermined : Type 0
 MeaningIsDetermined =
     (items : List Item) (Γ : Scope) (e : Term) (T : CType) (t u : LinTerm) →
     Checks items Γ e T t → Checks items Γ e T u → t ≡ u
+
+-- each language has at most one lincat of a category, and none of the two that are built in
+pub record HasOneLincat (flat : Flat) : Type 0 where
+  pub once : (lang : List ℕ) (v w : Whole) (d e : Term) → Contains (items flat) (lincat lang v d) →
+      Contains (items flat) (lincat lang w e) → v.name ≡ w.name → d ≡ e
+  pub not_int : (lang : List ℕ) (w : Whole) (e : Term) → Contains (items flat) (lincat lang w e) → w.name ≢ codes "Int"
+  pub not_string : (lang : List ℕ) (w : Whole) (e : Term) → Contains (items flat) (lincat lang w e) → w.name ≢ codes "String"
+
+-- a judgement has at most one typing there
+abbrev pub JudgementIsDetermined : Type 0
+JudgementIsDetermined =
+    (flat : Flat) → HasOneLincat flat → (k : ℕ) (t u : LinTerm) (T U : CType) →
+    IsTyped flat k t T → IsTyped flat k u U → (t ≡ u) × (T ≡ U)

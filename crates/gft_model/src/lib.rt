@@ -13,7 +13,7 @@ pub use laws::{
 };
 pub use lines::line_is_read_once;
 pub use sources::{
-    alternatives_in_order, cases_are_in_order, found_type_is_determined, meaning_is_determined,
-    no_variants, pattern_fits_once, tokens_are_determined, values_are_counted,
-    written_type_is_determined,
+    alternatives_in_order, cases_are_in_order, found_type_is_determined, judgement_is_determined,
+    meaning_is_determined, no_variants, pattern_fits_once, tokens_are_determined,
+    values_are_counted, written_type_is_determined,
 };

@@ -1,5 +1,5 @@
 //! Laws of the definitions over sources. Each function does nothing; its clause is the law.
-ghost use Rattle.gft_model.specs.SourceLaws.{TokensAreDetermined, AlternativesInOrder, NoVariants, ValuesAreCounted, CasesAreInOrder, PatternFitsOnce, WrittenTypeIsDetermined, FoundTypeIsDetermined, MeaningIsDetermined};
+ghost use Rattle.gft_model.specs.SourceLaws.{TokensAreDetermined, AlternativesInOrder, NoVariants, ValuesAreCounted, CasesAreInOrder, PatternFitsOnce, WrittenTypeIsDetermined, FoundTypeIsDetermined, MeaningIsDetermined, JudgementIsDetermined};
 
 /// A file has at most one list of tokens.
 pub fn tokens_are_determined()
@@ -45,4 +45,9 @@ pub fn found_type_is_determined()
 /// A term that fits a type means at most one typed term there.
 pub fn meaning_is_determined()
     ensures { MeaningIsDetermined }
+{}
+
+/// A judgement has at most one typing, where each language has one lincat of a category.
+pub fn judgement_is_determined()
+    ensures { JudgementIsDetermined }
 {}
