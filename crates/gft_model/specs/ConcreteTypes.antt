@@ -47,11 +47,12 @@ finite_step d = false
 abbrev pub is_finite : CType → Bool
 is_finite = fold-CType Bool finite_step
 
--- the sum and the product of a list
+-- the sum of a list
 abbrev pub sum_of : List ℕ → ℕ
 sum_of [] = 0
 sum_of (n ∷ ns) = n + sum_of ns
 
+-- the product of a list
 abbrev pub product_of : List ℕ → ℕ
 product_of [] = 1
 product_of (n ∷ ns) = n * product_of ns

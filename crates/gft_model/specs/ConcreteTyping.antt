@@ -50,6 +50,7 @@ Covers P ps = IsTrue (list_all (λ v. list_any (λ p. is_matched (match_of p (pa
 abbrev pub IsCovered : CType → List Pattern → Type 0
 IsCovered P ps = (IsDomain P × Covers P ps) ⊎ (P ≡ str_type)
 
+-- the patterns of branches
 abbrev pub patterns : List (Case Term) → List Pattern
 patterns cs = map (λ c. c.pattern) cs
 
@@ -60,6 +61,7 @@ pub data Fits : CType → CType → LinTerm → LinTerm → Type 0 where
       Fits S T t (made (Lin-F.Cut t S T))
   sort : {t : LinTerm} → Fits sort_param sort_type t t
 
+-- a record type
 abbrev pub is_record : CType-F.CType-F CType → Bool
 is_record (CType-F.Record fs) = true
 is_record T = false
@@ -103,6 +105,7 @@ for_each (x ∷ xs) a = map (λ y. a) (x ∷ xs)
 abbrev pub with_names : List (List ℕ) → CType → Scope → Scope
 with_names xs T Γ = reverse (map (λ x. (x, T)) xs) ++ Γ
 
+-- a term under its locals
 abbrev pub with_lets : LocalTerms → LinTerm → LinTerm
 with_lets [] t = t
 with_lets (d ∷ ds) t = made (Lin-F.Let d.0 d.1 (with_lets ds t))
@@ -123,6 +126,7 @@ pub data Standing : Type 0 where
   an_overload : Standing
   nothing : Standing
 
+-- a constructor of the parameter type w
 abbrev pub is_constructor : Whole → Whole → List Constructor → Bool
 is_constructor c w cs = bytes_eq c.«module» w.«module» && list_any (λ d. bytes_eq c.name d.name.name) cs
 
@@ -182,6 +186,7 @@ module _ (items : List Item) where
           Stands w (a_parameter cs) → AreConstructors w cs ds → out-CType T ≡ CType-F.Param w ds →
           IsParameter w T
 
+    -- the constructors with the types of their arguments
     pub data AreConstructors : Whole → List Constructor → List (Whole × List CType) → Type 0 where
       no_constructor : {w : Whole} → AreConstructors w [] []
       constructor : {w : Whole} {c : Constructor} {cs : List Constructor} {Ts : List CType} {ds : List (Whole × List CType)} →
@@ -404,6 +409,7 @@ module _ (items : List Item) where
       first_member : {Γ : Scope} {e : Term} {es : List Term} {T : CType} {t : LinTerm} {ts : List LinTerm} →
           Finds Γ e T t → IsData T → MembersCheck Γ es T ts → MembersFind Γ (e ∷ es) T (t ∷ ts)
 
+    -- members that are given a type
     pub data MembersCheck : Scope → List Term → CType → List LinTerm → Type 0 where
       no_member : {Γ : Scope} {T : CType} → MembersCheck Γ [] T []
       member : {Γ : Scope} {e : Term} {es : List Term} {T : CType} {t : LinTerm} {ts : List LinTerm} →
@@ -416,6 +422,7 @@ module _ (items : List Item) where
           PatternFits P c.pattern Δ → Finds (Δ ++ Γ) c.body V t → IsData V →
           BranchesCheck Γ P cs V bs → BranchesFind Γ P (c ∷ cs) V ((c.pattern, t) ∷ bs)
 
+    -- branches whose bodies are given a type
     pub data BranchesCheck : Scope → CType → List (Case Term) → CType → BranchTerms →
         Type 0 where
       no_branch : {Γ : Scope} {P V : CType} → BranchesCheck Γ P [] V []

@@ -27,6 +27,7 @@ pub data Item : Type 0 where
   lindef : List ℕ → Whole → Term → Item
   linref : List ℕ → Whole → Term → Item
 
+-- the place of what is bound
 abbrev pub bind_place : Bind → Place
 bind_place (Variable x place) = place
 bind_place (Nothing place) = place
@@ -54,6 +55,7 @@ items_in lang w (Judgement-V.OperTyped ns T d) = defined w (Some T) [] d
 items_in lang w (Judgement-V.Oper ns xs d) = defined w None xs d
 items_in lang w j = []
 
+-- the items of some judgements
 abbrev pub items_of_all : List ℕ → List FlatJudgement → List Item
 items_of_all lang js = flat_map (λ j. items_in lang j.whole j.judgement) js
 

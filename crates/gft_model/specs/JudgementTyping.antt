@@ -31,9 +31,11 @@ pub record Signature : Type 0 where
   pub arguments : List (List ℕ)
   pub result : List ℕ
 
+-- a type that is no arrow: its head
 abbrev pub headed : List ℕ → Signature
 headed C = record { arguments = []; result = C }
 
+-- what a form is, from what its parts are
 abbrev pub signature_step : Term-F.Term-F Signature → Signature
 signature_step (Term-F.Arrow xs a b place) =
     record { arguments = for_each xs a.result ++ b.arguments; result = b.result }
@@ -42,6 +44,7 @@ signature_step (Term-F.Var r place) = headed (name_of r)
 signature_step (Term-F.ListCat r place) = headed (name_of r)
 signature_step d = headed []
 
+-- the signature that a type is
 abbrev pub signature_of : Term → Signature
 signature_of = fold-Term Signature signature_step
 

@@ -14,14 +14,17 @@ abbrev pub is_lin : List ℕ → List ℕ → Item → Bool
 is_lin lang f (lin l w e) = bytes_eq lang l && bytes_eq f w.name
 is_lin lang f i = false
 
+-- the lincat of a category
 abbrev pub is_lincat : List ℕ → List ℕ → Item → Bool
 is_lincat lang C (lincat l w e) = bytes_eq lang l && bytes_eq C w.name
 is_lincat lang C i = false
 
+-- its lindef
 abbrev pub is_lindef : List ℕ → List ℕ → Item → Bool
 is_lindef lang C (lindef l w e) = bytes_eq lang l && bytes_eq C w.name
 is_lindef lang C i = false
 
+-- its linref
 abbrev pub is_linref : List ℕ → List ℕ → Item → Bool
 is_linref lang C (linref l w e) = bytes_eq lang l && bytes_eq C w.name
 is_linref lang C i = false

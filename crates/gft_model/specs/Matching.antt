@@ -37,6 +37,7 @@ value_step (Param-F.Ints n) = (number_param n, param_value (number_param n))
 value_step (Param-F.Record fs) =
     (record_param (map (λ f. (f.0, f.1.0)) fs), record_value (map (λ f. (f.0, f.1.1)) fs))
 
+-- the value that a parameter value is
 abbrev pub value_of : Param → Value
 value_of v = (fold-Param (Param × Value) value_step v).1
 
@@ -90,6 +91,7 @@ and_also (matched bs) hidden = hidden
 and_also differs m = differs
 and_also hidden m = hidden
 
+-- a match that binds nothing, or none
 abbrev pub matched_if : Bool → Match
 matched_if b = if b then matched [] else differs
 
@@ -109,6 +111,7 @@ abbrev pub shortest_split : (List ℕ → Match) → (List ℕ → Match) → Li
 shortest_split p q left [] = and_also (p left) (q [])
 shortest_split p q left (c ∷ cs) = or_else (and_also (p left) (q (c ∷ cs))) (shortest_split p q (left ++ c ∷ []) cs)
 
+-- whether it matches
 abbrev pub is_matched : Match → Bool
 is_matched (matched bs) = true
 is_matched m = false
@@ -131,6 +134,7 @@ match_labels p fs [] = matched []
 match_labels p fs (l ∷ ls) =
     elim (field_of l fs) [ None ↦ differs | Some v ↦ and_also (p (parameter v)) (match_labels p fs ls) ]
 
+-- the patterns of fields on a record
 abbrev pub match_fields : List (PatternField (Subject → Match)) → List (List ℕ × Param) → Match
 match_fields [] fs = matched []
 match_fields (f ∷ rest) fs = and_also (match_labels f.pattern fs f.labels) (match_fields rest fs)
@@ -140,6 +144,7 @@ abbrev pub match_constructor : Whole → List (Subject → Match) → Param-F Pa
 match_constructor w ps (Param-F.Con c vs) = if same_whole w c then match_all ps vs else differs
 match_constructor w ps v = differs
 
+-- a number and the same number
 abbrev pub match_number : ℕ → Param-F Param → Match
 match_number n (Param-F.Ints m) = matched_if (n == m)
 match_number n v = differs

@@ -39,20 +39,24 @@ pub data Outcome : Type 0 where
   gives : Value → Outcome
   stuck_at : Stuck → Outcome
 
--- what a term may mean, and its outcomes in order: a value, or a function of one
+-- what a term may mean, and its outcomes in order
 mutual
+  -- a value, or a function of one
   pub data Meaning : Type 0 where
     plain : Value → Meaning
     function : (Value → Results) → Meaning
 
+  -- the outcomes in order, stuck steps among them
   pub data Results : Type 0 where
     none : Results
     also : Meaning → Results → Results
     stuck : Stuck → Results → Results
 
+-- one outcome
 abbrev pub one : Meaning → Results
 one m = also m none
 
+-- one stuck step
 abbrev pub stuck_by : StuckRule → Place → Results
 stuck_by rule place = stuck (record { rule = rule; place = place }) none
 
@@ -94,9 +98,11 @@ pub record Environment : Type 0 where
   pub arguments : List Value
   pub variables : Bindings
 
+-- variables with their values, before the others
 abbrev pub bind_all : Bindings → Environment → Environment
 bind_all bs env = record { arguments = env.arguments; variables = bs ++ env.variables }
 
+-- a variable, if one is named
 abbrev pub bind_in : Option (List ℕ) → Value → Environment → Environment
 bind_in None v env = env
 bind_in (Some x) v env = bind_all ((x, v) ∷ []) env
@@ -106,19 +112,22 @@ abbrev pub just : Option Value → Results
 just None = none
 just (Some v) = one (plain v)
 
--- what each form of value gives where a string, a record, a table is wanted
+-- where a string is wanted; another value has no outcome
 abbrev pub on_string : (List Sym → Results) → Value-F Value → Results
 on_string f (Value-F.Str ss) = f ss
 on_string f d = none
 
+-- where a record is wanted
 abbrev pub on_record : (List (List ℕ × Value) → Results) → Value-F Value → Results
 on_record f (Value-F.Record fs) = f fs
 on_record f d = none
 
+-- where a table is wanted
 abbrev pub on_table : (List (Param × Value) → Results) → Value-F Value → Results
 on_table f (Value-F.Table es) = f es
 on_table f d = none
 
+-- the string of each outcome
 abbrev pub with_string : Results → (List Sym → Results) → Results
 with_string r next = with_value r (λ v. on_string next (out-Value v))
 
@@ -143,6 +152,7 @@ predef_string p place n ss =
       | Some ws ↦ one (plain (words_value (words_of (encode_utf8_all (part p n (chars (joined ws)))))))
     ]
 
+-- where a number is wanted
 abbrev pub on_number : (ℕ → Results) → Param-F Param → Results
 on_number f (Param-F.Ints n) = f n
 on_number f v = none
@@ -153,11 +163,13 @@ no_branch place (parameter v) = none
 no_branch place (Subject.text cs) = stuck_by no_string_branch place
 no_branch place (closed ss) = stuck_by match_on_argument place
 
+-- the branch, the next one, or a stuck step
 abbrev pub taken : Match → (Bindings → Results) → Place → Results → Results
 taken (matched bs) here place after = here bs
 taken differs here place after = after
 taken hidden here place after = stuck_by match_on_argument place
 
+-- the first branch that matches
 abbrev pub first_match : Place → Subject → List (Pattern × (Environment → Results)) → Environment → Results
 first_match place s [] env = no_branch place s
 first_match place s (b ∷ bs) env =
@@ -168,6 +180,7 @@ abbrev pub item_at : Subject → List (Param × (Environment → Results)) → E
 item_at (parameter v) items env = elim (entry_at v items) [ None ↦ none | Some t ↦ t env ]
 item_at s items env = none
 
+-- the branch at the subject
 abbrev pub branch_at : Place → Subject → Branches (Environment → Results) → Environment → Results
 branch_at place s (Matched bs) env = first_match place s bs env
 branch_at place s (Listed P ts) env = item_at s (zip (values_of P) ts) env
@@ -179,6 +192,7 @@ first_cell v (b ∷ bs) env =
     elim (match_of b.0 (parameter v))
     [ matched vs ↦ b.1 (bind_all vs env) | differs ↦ first_cell v bs env | hidden ↦ none ]
 
+-- the cell, of branches of either kind
 abbrev pub cell_at : Param → Branches (Environment → Results) → Environment → Results
 cell_at v (Matched bs) env = first_cell v bs env
 cell_at v (Listed P ts) env = item_at (parameter v) (zip (values_of P) ts) env
@@ -203,6 +217,7 @@ abbrev pub cut_function : CType × Cutting → CType-F CType → (Value → Resu
 cut_function R (CType-F.Fun A B) f = one (function (λ v. and_then (f (cut_value A v)) (cut_meaning R B)))
 cut_function R d f = none
 
+-- how functions of a layer are cut
 abbrev pub cutting_step : CType-F (CType × Cutting) → Cutting
 cutting_step (CType-F.Fun P R) S f = cut_function R (out-CType S) f
 cutting_step d S f = none
@@ -257,6 +272,7 @@ results_of opers = fold-LinTerm (Environment → Results) (step opers)
 abbrev pub outcomes_of : (ℕ → Results) → LinTerm → Environment → List Outcome
 outcomes_of opers t env = outcomes (results_of opers t env)
 
+-- no arguments and no variables
 abbrev pub no_environment : Environment
 no_environment = record { arguments = []; variables = [] }
 

@@ -45,6 +45,7 @@ plain_pattern (Fields fs place) = Fields (flat_map field_by_field fs) place
 plain_pattern (Tuple ps place) = Fields (tuple_patterns 0 ps) place
 plain_pattern d = d
 
+-- how typing sees a pattern
 unfoldable pub pattern_form : Pattern → Layer
 pattern_form p = plain_pattern (out-Pattern p)
 

@@ -47,6 +47,7 @@ parameters_step (Value-F.Param v) = v ∷ []
 parameters_step (Value-F.Record fs) = flat_map (λ f. f.1) fs
 parameters_step (Value-F.Table es) = flat_map (λ e. e.1) es
 
+-- the case of a value: its parameters
 abbrev pub case_of : Value → List Param
 case_of = fold-Value (List Param) parameters_step
 
@@ -62,6 +63,7 @@ given [] = []
 given (gives v ∷ os) = v ∷ given os
 given (stuck_at k ∷ os) = given os
 
+-- what the outcomes of one case give
 abbrev pub productions_given : List Value → List Outcome → List CaseProduction
 productions_given vs os =
     map (λ v. record { arguments = map case_of vs; result = case_of v; sequences = string_leaves v }) (given os)

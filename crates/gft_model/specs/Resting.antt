@@ -14,6 +14,7 @@ use Rattle.gft_syntax.specs.declared.term.Term.TheOpen as T
 use Rattle.gft_syntax.specs.declared.term.Term.TheFolds.{fold-Term}
 use Rattle.gft_model.specs.Items.{Item, parameter_type, bare_parameter, oper, alternative, lincat, lin, lindef, linref}
 
+-- whole names
 abbrev pub Wholes : Type 0
 Wholes = List Whole
 
@@ -35,17 +36,21 @@ pattern_names_step (P.Fields fs place) = flat_map (λ f. f.pattern) fs
 pattern_names_step (P.Tuple ps place) = flat_map (λ p. p) ps
 pattern_names_step d = []
 
+-- those in a pattern
 abbrev pub pattern_names : Pattern → Wholes
 pattern_names = fold-Pattern Wholes pattern_names_step
 
+-- those in a local or a field
 abbrev pub local_wholes : Local Wholes → Wholes
 local_wholes (Value xs e) = e
 local_wholes (Label xs t) = t
 local_wholes (TypedValue xs t e) = t ++ e
 
+-- those in a branch
 abbrev pub case_wholes : Case Wholes → Wholes
 case_wholes c = pattern_names c.pattern ++ c.body
 
+-- those in what may be missing
 abbrev pub there : Option Wholes → Wholes
 there None = []
 there (Some ws) = ws
@@ -76,9 +81,11 @@ names_step (T.Tuple es place) = flat_map (λ e. e) es
 names_step (T.Typed e t place) = e ++ t
 names_step d = []
 
+-- those in a term
 abbrev pub names_in : Term → Wholes
 names_in = fold-Term Wholes names_step
 
+-- those in a term that may be missing
 abbrev pub names_where : Option Term → Wholes
 names_where None = []
 names_where (Some e) = names_in e

@@ -20,6 +20,7 @@ abbrev pub first_of_fields : List (List ℕ × Option (List Sym)) → Option (Li
 first_of_fields [] = None
 first_of_fields (f ∷ fs) = elim f.1 [ Some ss ↦ Some ss | None ↦ first_of_fields fs ]
 
+-- the first string of a layer
 abbrev pub first_string_step : Value-F (Option (List Sym)) → Option (List Sym)
 first_string_step (Value-F.Str ss) = Some ss
 first_string_step (Value-F.Param v) = None
@@ -36,6 +37,7 @@ first_string_step (Value-F.Table (e ∷ es)) = e.1
 abbrev pub first_string : Value → Option (List Sym)
 first_string = fold-Value (Option (List Sym)) first_string_step
 
+-- no words where there is no string
 abbrev pub words_or_none : Option (List Sym) → List Sym
 words_or_none None = []
 words_or_none (Some ss) = ss
@@ -50,12 +52,14 @@ string_outcomes flat lang C v =
     elim (typed_at flat (is_linref lang C))
     [ None ↦ default_string v | Some t ↦ outcomes (outcomes_on flat t.term (v ∷ [])) ]
 
+-- the pieces of a string
 abbrev pub pieces_of_value : BracketedValue → Value-F Value → List (List Piece)
 pieces_of_value v (Value-F.Str ss) = replaced (v ∷ []) ss ∷ []
 pieces_of_value v (Value-F.Param p) = []
 pieces_of_value v (Value-F.Record fs) = []
 pieces_of_value v (Value-F.Table es) = []
 
+-- the pieces of each outcome
 abbrev pub pieces_of : BracketedValue → List Outcome → List (List Piece)
 pieces_of v [] = []
 pieces_of v (gives s ∷ os) = pieces_of_value v (out-Value s) ++ pieces_of v os

@@ -27,6 +27,7 @@ leaves_of_step (Value-F.Param v) = []
 leaves_of_step (Value-F.Record fs) = flat_map (λ f. f.1) fs
 leaves_of_step (Value-F.Table es) = flat_map (λ e. e.1) es
 
+-- the string leaves of a value, in order
 abbrev pub string_leaves : Value → List (List Sym)
 string_leaves = fold-Value (List (List Sym)) leaves_of_step
 
@@ -34,10 +35,12 @@ string_leaves = fold-Value (List (List Sym)) leaves_of_step
 abbrev pub Numbered : Type 0
 Numbered = ℕ → Value × ℕ
 
+-- fields or entries, one after the other
 abbrev pub number_all : {A : Type 0} → List (A × Numbered) → ℕ → List (A × Value) × ℕ
 number_all [] l = ([], l)
 number_all (f ∷ fs) l = let here = f.1 l in let rest = number_all fs here.1 in ((f.0, here.0) ∷ rest.0, rest.1)
 
+-- a layer with its leaves numbered
 abbrev pub number_step : ℕ → Value-F Numbered → Numbered
 number_step i (Value-F.Str ss) l = (string_value (Arg i l ∷ []), suc l)
 number_step i (Value-F.Param v) l = (param_value v, l)
@@ -81,10 +84,12 @@ abbrev pub literal_value : Mark → List ℕ → List ℕ → BracketedValue
 literal_value mark w p =
     record { value = record_value ((codes "s", string_value (Tok w ∷ [])) ∷ []); strings = bracketed p (word mark w ∷ []) ∷ [] }
 
+-- the first of the values as a value
 abbrev pub first_value : List Param → Value
 first_value [] = param_value (number_param 0)
 first_value (v ∷ vs) = param_value v
 
+-- the default value of a layer
 abbrev pub default_step : CType-F (CType × Value) → Value
 default_step CType-F.Str = string_value (Arg 0 0 ∷ [])
 default_step (CType-F.Param w cs) = first_value (layer_values (CType-F.Param w cs))

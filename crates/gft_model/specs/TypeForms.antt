@@ -21,22 +21,27 @@ use Rattle.gft_syntax.specs.declared.term.Local.TheVariants.{Value, Label, Typed
 use Rattle.gft_model.specs.Matching.{tuple_label}
 use Rattle.gft_model.specs.Values.{extended}
 
--- labels with their types, and with their typed terms; branches; the names of locals with their terms
+-- labels with their types
 abbrev pub FieldTypes : Type 0
 FieldTypes = List (List ℕ × CType)
 
+-- labels with their typed terms
 abbrev pub FieldTerms : Type 0
 FieldTerms = List (List ℕ × LinTerm)
 
+-- branches, typed
 abbrev pub BranchTerms : Type 0
 BranchTerms = List (Pattern × LinTerm)
 
+-- the names of each local, with its term
 abbrev pub LocalTerms : Type 0
 LocalTerms = List (List (List ℕ) × LinTerm)
 
+-- the type of strings
 abbrev pub str_type : CType
 str_type = roll-CType CType-F.Str
 
+-- the type of the numbers from 0 to n
 abbrev pub number_type : ℕ → CType
 number_type n = roll-CType (CType-F.Ints n)
 
@@ -44,15 +49,19 @@ number_type n = roll-CType (CType-F.Ints n)
 abbrev pub record_type : List (List ℕ × CType) → CType
 record_type fs = roll-CType (CType-F.Record (extended [] fs))
 
+-- a table type: what it is over, then the type of its values
 abbrev pub table_type : CType → CType → CType
 table_type P V = roll-CType (CType-F.Table P V)
 
+-- a function type
 abbrev pub function_type : CType → CType → CType
 function_type A B = roll-CType (CType-F.Fun A B)
 
+-- the type of types
 abbrev pub sort_type : CType
 sort_type = roll-CType CType-F.TypeSort
 
+-- the type of parameter types
 abbrev pub sort_param : CType
 sort_param = roll-CType CType-F.ParamSort
 
@@ -87,6 +96,7 @@ plain_form (Term-F.Fields ls place) = Term-F.Fields (flat_map one_by_one ls) pla
 plain_form (Term-F.Tuple es place) = Term-F.Fields (tuple_locals 0 es) place
 plain_form d = d
 
+-- how typing sees a term
 unfoldable pub form : Term → Layer
 form e = plain_form (out-Term e)
 
@@ -103,6 +113,7 @@ abbrev pub bound : Bind → Option (List ℕ)
 bound (Variable x place) = Some x
 bound (Nothing place) = None
 
+-- what is bound, before the rest
 abbrev pub with_bound : {A : Type 0} → Bind → A → List (List ℕ × A) → List (List ℕ × A)
 with_bound (Variable x place) a Γ = (x, a) ∷ Γ
 with_bound (Nothing place) a Γ = Γ
@@ -119,6 +130,7 @@ constructor_after n (T ∷ Ts) vs w =
     let x = tuple_label n in
     made (Lin-F.Lambda (Some x) (constructor_after (suc n) Ts (vs ++ made (Lin-F.Var x) ∷ []) w))
 
+-- a constructor as a function
 abbrev pub constructor_term : List CType → Whole → LinTerm
 constructor_term Ts w = constructor_after 0 Ts [] w
 

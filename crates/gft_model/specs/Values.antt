@@ -20,14 +20,17 @@ abbrev pub all_there : {A : Type 0} → List (List ℕ × Option A) → Option (
 all_there [] = Some []
 all_there (f ∷ fs) = option_and_then (λ a. option_map (λ rest. (f.0, a) ∷ rest) (all_there fs)) f.1
 
+-- the parameter that a layer is
 abbrev pub param_step : Value-F (Option Param) → Option Param
 param_step (Value-F.Param v) = Some v
 param_step (Value-F.Record fs) = option_map record_param (all_there fs)
 param_step d = None
 
+-- the parameter that a value is
 abbrev pub param_of : Value → Option Param
 param_of = fold-Value (Option Param) param_step
 
+-- those that several are
 abbrev pub params_of : List Value → Option (List Param)
 params_of [] = Some []
 params_of (v ∷ vs) = option_and_then (λ p. option_map (λ ps. p ∷ ps) (params_of vs)) (param_of v)
@@ -38,17 +41,20 @@ each_same [] [] = true
 each_same (f ∷ fs) (v ∷ vs) = f v && each_same fs vs
 each_same fs vs = false
 
+-- fields one by one
 abbrev pub fields_same : List (List ℕ × (Param → Bool)) → List (List ℕ × Param) → Bool
 fields_same [] [] = true
 fields_same (f ∷ fs) (v ∷ vs) = bytes_eq f.0 v.0 && f.1 v.1 && fields_same fs vs
 fields_same fs vs = false
 
+-- a layer and a parameter value
 abbrev pub same_step : Param-F (Param → Bool) → Param-F Param → Bool
 same_step (Param-F.Con w fs) (Param-F.Con c vs) = same_whole w c && each_same fs vs
 same_step (Param-F.Ints m) (Param-F.Ints n) = m == n
 same_step (Param-F.Record fs) (Param-F.Record vs) = fields_same fs vs
 same_step d v = false
 
+-- two parameter values are the same
 abbrev pub same_param : Param → Param → Bool
 same_param = fold-Param (Param → Bool) (λ d v. same_step d (out-Param v))
 
@@ -94,18 +100,22 @@ cut_fields [] fs = []
 cut_fields (g ∷ gs) fs =
     elim (field_of g.0 fs) [ None ↦ cut_fields gs fs | Some v ↦ (g.0, g.1 v) ∷ cut_fields gs fs ]
 
+-- a record cut to fields
 abbrev pub cut_record : List (List ℕ × (Value → Value)) → Value → Value-F Value → Value
 cut_record gs v (Value-F.Record fs) = record_value (cut_fields gs fs)
 cut_record gs v d = v
 
+-- a table, each value cut
 abbrev pub cut_table : (Value → Value) → Value → Value-F Value → Value
 cut_table f v (Value-F.Table es) = table_value (map (λ e. (e.0, f e.1)) es)
 cut_table f v d = v
 
+-- what cutting to a layer does
 abbrev pub cut_step : CType-F (Value → Value) → Value → Value
 cut_step (CType-F.Record gs) v = cut_record gs v (out-Value v)
 cut_step (CType-F.Table P f) v = cut_table f v (out-Value v)
 cut_step d v = v
 
+-- a value cut to the labels of a type
 abbrev pub cut_value : CType → Value → Value
 cut_value = fold-CType (Value → Value) cut_step
