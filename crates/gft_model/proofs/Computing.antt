@@ -13,7 +13,7 @@ use Rattle.gft_syntax.specs.declared.linear.LinTerm.TheFolds.{fold-roll-LinTerm,
 use Rattle.gft_syntax.specs.declared.pattern.Pattern.{Pattern, roll-Pattern}
 use Rattle.gft_syntax.specs.declared.pattern.Pattern.TheOpen.{Pattern-F}
 use Rattle.gft_syntax.specs.declared.pattern.Pattern.TheFolds.{fold-roll-Pattern, map-Pattern}
-use Rattle.gft_syntax.specs.declared.term.Term.{Term, roll-Term}
+use Rattle.gft_syntax.specs.declared.term.Term.{roll-Term}
 use Rattle.gft_syntax.specs.declared.term.Term.TheViews.{out-roll-Term}
 use Rattle.gft_syntax.specs.Terms.{Layer}
 use Rattle.gft_syntax.specs.declared.value.Param.{Param, roll-Param, out-Param}

@@ -5,7 +5,6 @@ use Rattle.gft_syntax.specs.declared.bind.Bind.{Bind}
 use Rattle.gft_syntax.specs.declared.ctype.CType.{CType, out-CType}
 use Rattle.gft_syntax.specs.declared.ctype.CType.TheOpen as C
 use Rattle.gft_syntax.specs.declared.ctype.CType.TheViews.{out-roll-CType}
-use Rattle.gft_syntax.specs.declared.judgement.Constructor.{Constructor}
 use Rattle.gft_syntax.specs.declared.linear.LinTerm.{LinTerm}
 use Rattle.gft_syntax.specs.declared.pattern.Pattern.{Pattern}
 use Rattle.gft_syntax.specs.declared.reference.Reference.TheVariants.{Written, Found, Whole as WholeName}
@@ -16,10 +15,10 @@ use Rattle.gft_syntax.specs.declared.term.Sort.TheVariants as Sort
 use Rattle.gft_syntax.specs.declared.term.Term.{Term}
 use Rattle.gft_syntax.specs.declared.term.Term.TheOpen as F
 use Rattle.gft_model.specs.ConcreteTypes.{IsSubtype, equal, fewer_labels, tables, numbers, functions}
-use Rattle.gft_model.specs.ConcreteTyping.{is_record, is_type_form, is_table_expression, passes, Spine, applied_to, at_head, Fits, same, cut, sort, IsType, IsHead, Stands, a_parameter, Takes, takes_none, takes, Suits, Chosen, parameter_of, AreLabels, no_label, label, text_type, type_of_types, type_of_parameters, numbers_to, labels, table_over, function_from, pair_of, parameters_named, oper_named, definition_named, with_names, with_lets, Finds, Checks, ChecksLambda, body, binds, ChecksTable, cell, over, ChecksArguments, no_argument_left, next_argument, FindsAll, none_found, next_found, MembersFind, first_member, MembersCheck, no_member, member, BranchesFind, first_branch, BranchesCheck, no_branch, branch, FieldsHave, no_field, value_given, value_found, typed_given, typed_alone, Defines, no_local, local, typed_local, variable, constructor_name, typed_oper, untyped_oper, alternative_alone, parameter_name, literal, append, glue, number, predef, projection, application, overloaded, selection, branch_over, branch_of, item_of, case_found, table_found, list_found, record_found, extension, typed, let_found, variants_found, lambda, table_lambda, branches, branches_over, listed, record_given, let_given, case_given, variants_given, empty_type, parameter_given, found, type_form}
+use Rattle.gft_model.specs.ConcreteTyping.{is_record, is_type_form, is_table_expression, passes, Spine, applied_to, at_head, Fits, same, cut, sort, IsType, IsHead, Takes, takes_none, takes, Suits, Chosen, parameter_of, AreLabels, no_label, label, text_type, type_of_types, type_of_parameters, numbers_to, labels, table_over, function_from, pair_of, parameters_named, oper_named, definition_named, with_names, with_lets, Finds, Checks, ChecksLambda, body, binds, ChecksTable, cell, over, ChecksArguments, no_argument_left, next_argument, FindsAll, none_found, next_found, MembersFind, first_member, MembersCheck, no_member, member, BranchesFind, first_branch, BranchesCheck, no_branch, branch, FieldsHave, no_field, value_given, value_found, typed_given, typed_alone, Defines, no_local, local, typed_local, variable, constructor_name, typed_oper, untyped_oper, alternative_alone, parameter_name, literal, append, glue, number, predef, projection, application, overloaded, selection, branch_over, branch_of, item_of, case_found, table_found, list_found, record_found, extension, typed, let_found, variants_found, lambda, table_lambda, branches, branches_over, listed, record_given, let_given, case_given, variants_given, empty_type, parameter_given, found, type_form}
 use Rattle.gft_model.specs.Items.{Item}
 use Rattle.gft_model.specs.PatternTyping.{Scope}
-use Rattle.gft_model.specs.TypeForms.{form, sort_type, record_type}
+use Rattle.gft_model.specs.TypeForms.{form, record_type}
 use Rattle.gft_model.specs.Values.{extended}
 use Rattle.gft_model.proofs.PatternLaws.{fits-once, same-arguments}
 use Rattle.gft_model.proofs.TypeLaws.{type-once, parameter-once}

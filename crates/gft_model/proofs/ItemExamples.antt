@@ -1,5 +1,5 @@
 -- Worked examples of what judgements rest on: an oper beside a lin of its name, and an oper that needs itself.
-use Rattle.std.proofs.Common.{◌≡◌, refl, ap, sym, ◌∙◌, subst, ℕ, zero, suc, List, [], ◌∷◌, Some, None, arith}
+use Rattle.std.proofs.Common.{◌≡◌, refl, ap, sym, ◌∙◌, subst, zero, suc, List, [], ◌∷◌, Some, None, arith}
 use Rattle.std.specs.Prelude.{codes, Contains}
 use Rattle.gft_core.specs.declared.place.Place.{Place}
 use Rattle.gft_syntax.specs.declared.reference.Reference.TheVariants.{Whole as WholeName}

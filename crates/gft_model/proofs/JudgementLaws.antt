@@ -1,11 +1,9 @@
 -- A judgement is typed in at most one way.
-use Rattle.std.proofs.Common.{◌≡◌, ap, sym, ◌∙◌, subst, refl, ℕ, List, ◌∷◌, Some, ◌⊎◌}
+use Rattle.std.proofs.Common.{◌≡◌, ap, sym, ◌∙◌, subst, refl, ℕ, List}
 use Rattle.std.specs.Prelude.{Contains}
 use Rattle.gft_syntax.specs.declared.ctype.CType.{CType}
 use Rattle.gft_syntax.specs.declared.flat.Flat.{Flat}
 use Rattle.gft_syntax.specs.declared.linear.LinTerm.{LinTerm}
-use Rattle.gft_syntax.specs.declared.reference.Whole.{Whole}
-use Rattle.gft_syntax.specs.declared.term.Term.{Term}
 use Rattle.gft_model.specs.Items.{Item, lincat}
 use Rattle.gft_model.specs.JudgementTyping.{items, IsSort, Signature, HasLinType, of_int, of_string, of_category, HaveLinTypes, no_more, more, HasTyping, parameter, undefined_parameter, named_type, typed_oper, undefined_oper, found_type, found_oper, of_overload, linearization_type, linearization, of_lindef, of_linref, IsTyped}
 use Rattle.gft_model.specs.SourceLaws.{HasOneLincat}

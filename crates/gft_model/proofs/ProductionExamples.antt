@@ -5,7 +5,6 @@ use Rattle.gft_core.specs.declared.symbol.Sym.{Sym}
 use Rattle.gft_core.specs.declared.symbol.Sym.TheVariants.{Tok, Arg}
 use Rattle.gft_syntax.specs.declared.ctype.CType.{CType, roll-CType}
 use Rattle.gft_syntax.specs.declared.ctype.CType.TheOpen as C
-use Rattle.gft_syntax.specs.declared.ctype.CType.TheFolds.{fold-roll-CType}
 use Rattle.gft_syntax.specs.declared.flat.Flat.{Flat}
 use Rattle.gft_syntax.specs.declared.judgement.Judgement.TheVariants as J
 use Rattle.gft_syntax.specs.declared.linear.Branches.TheVariants.{Matched}
@@ -15,7 +14,6 @@ use Rattle.gft_syntax.specs.declared.linear.Typed.{Typed}
 use Rattle.gft_syntax.specs.declared.pattern.Pattern.{Pattern, roll-Pattern}
 use Rattle.gft_syntax.specs.declared.pattern.Pattern.TheOpen as P
 use Rattle.gft_syntax.specs.declared.reference.Reference.TheVariants.{Whole as WholeName}
-use Rattle.gft_syntax.specs.declared.reference.Whole.{Whole}
 use Rattle.gft_syntax.specs.declared.term.Term.{roll-Term}
 use Rattle.gft_syntax.specs.declared.term.Term.TheOpen as T
 use Rattle.gft_syntax.specs.declared.term.Term.TheFolds.{fold-roll-Term}

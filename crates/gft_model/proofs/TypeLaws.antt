@@ -1,5 +1,5 @@
 -- A term is at most one type where a type must stand.
-use Rattle.std.proofs.Common.{◌≡◌, ap, sym, ◌∙◌, refl, ℕ, List, ◌∷◌, ◌++◌, map}
+use Rattle.std.proofs.Common.{◌≡◌, ap, sym, ◌∙◌, refl, ℕ, List, ◌∷◌}
 use Rattle.gft_syntax.specs.declared.ctype.CType.{CType, out-CType, roll-CType}
 use Rattle.gft_syntax.specs.declared.ctype.CType.TheViews.{roll-out-CType}
 use Rattle.gft_syntax.specs.declared.judgement.Constructor.{Constructor}

@@ -1,5 +1,5 @@
 -- Worked examples of typing: a word, a record that is cut, a table, an overload, a Predef function.
-use Rattle.std.proofs.Common.{◌≡◌, refl, ap, sym, ◌∙◌, ℕ, zero, suc, List, [], ◌∷◌, Option, Some, None, Bool, true, false, subst, arith}
+use Rattle.std.proofs.Common.{◌≡◌, refl, ap, sym, ◌∙◌, ℕ, zero, suc, List, [], ◌∷◌, Some, None, Bool, true, false, subst, arith}
 use Rattle.std.specs.Prelude.{codes, bytes_eq}
 use Rattle.std.specs.List.{list_all, list_any}
 use Rattle.gft_core.specs.declared.place.Place.{Place}
@@ -23,16 +23,16 @@ use Rattle.gft_syntax.specs.declared.term.Local.TheVariants.{Value}
 use Rattle.gft_syntax.specs.declared.term.Sort.TheVariants as Sort
 use Rattle.gft_syntax.specs.declared.term.Term.{Term, roll-Term}
 use Rattle.gft_syntax.specs.declared.term.Term.TheOpen as F
-use Rattle.gft_model.specs.ConcreteTypes.{IsSubtype, HasLabels, field_of, fewer_labels, tables, numbers, functions, label, no_label, equal, values_of}
-use Rattle.gft_model.specs.ConcreteTyping.{empty_type, sort, Fits, FieldsHave, is_record, typed_given, typed_alone, IsData, IsType, Finds, Checks, Covers, patterns, passes, IsHead, Spine, Takes, takes, takes_none, Suits, Chosen, overloaded, Stands, an_overload, text_type, function_from, next_found, none_found, found, append, literal, number, same, cut, predef, application, applied_to, at_head, next_argument, no_argument_left, record_given, value_given, value_found, no_field, branches, branch, no_branch}
+use Rattle.gft_model.specs.ConcreteTypes.{HasLabels, field_of, fewer_labels, tables, numbers, functions, label, no_label, equal, values_of}
+use Rattle.gft_model.specs.ConcreteTyping.{empty_type, sort, Fits, FieldsHave, is_record, typed_given, typed_alone, IsData, IsType, Finds, Checks, Covers, patterns, passes, Takes, takes, takes_none, Suits, overloaded, text_type, function_from, next_found, none_found, found, append, literal, number, same, cut, predef, application, applied_to, at_head, next_argument, no_argument_left, record_given, value_given, value_found, no_field, branches, branch, no_branch}
 use Rattle.gft_model.specs.Items.{Item, alternative}
 use Rattle.gft_model.specs.Matching.{match_of, is_matched, parameter}
 use Rattle.gft_model.specs.PatternTyping.{pattern_form, no_more, Scope, PatternFits, Constructs, arguments_of, sequence, variable, literal as text_literal, constructor_with}
-use Rattle.gft_model.specs.TypeForms.{FieldTypes, FieldTerms, record_type, form, str_type, number_type, table_type, function_type, predef_type, predef_term, greatest, made}
+use Rattle.gft_model.specs.TypeForms.{FieldTypes, FieldTerms, record_type, form, str_type, number_type, table_type, function_type, predef_term, greatest, made}
 use Rattle.gft_model.proofs.Computing.{form-roll, pattern_form-roll, match-roll}
 use Rattle.gft_model.proofs.TypeLaws.{type-once}
-use Rattle.gft_model.proofs.FoundTypes.{find-once, fields-empty, check_form, check_form_is, same-tag, apart-tags}
-use Rattle.gft_model.proofs.PatternLaws.{form_of, form_is}
+use Rattle.gft_model.proofs.FoundTypes.{find-once, fields-empty, check_form_is, same-tag, apart-tags}
+use Rattle.gft_model.proofs.PatternLaws.{form_is}
 
 abbrev nowhere : Place
 nowhere = record { file = 0; line = 1; col = 1 }

@@ -24,7 +24,7 @@ use Rattle.gft_syntax.specs.declared.term.Term.{Term}
 use Rattle.gft_syntax.specs.declared.term.Term.TheOpen as Term-F
 use Rattle.gft_syntax.specs.Terms.{Layer}
 use Rattle.gft_model.specs.ConcreteTypes.{field_of, is_finite, count_of, values_of, IsSubtype}
-use Rattle.gft_model.specs.Items.{Item, parameter_type, bare_parameter, oper, alternative, lincat, lin, lindef, linref}
+use Rattle.gft_model.specs.Items.{Item, parameter_type, oper, alternative}
 use Rattle.gft_model.specs.Matching.{same_whole, parameter, match_of, is_matched}
 use Rattle.gft_model.specs.PatternTyping.{Scope, PatternFits, Constructs}
 use Rattle.gft_model.specs.TypeForms.{FieldTypes, FieldTerms, BranchTerms, LocalTerms, form, str_type, number_type, record_type, table_type, functions, sort_type, sort_param, tuple_fields, made, no_value, bound, with_bound, bound_pattern, constructor_term, predef_type, predef_term, predef_named}
