@@ -127,7 +127,7 @@ fits-same sort same e f g = g
 fits-same sort (cut n s) e f g = absurd (no-subtype s (ap out-CType (sym e) ∙ out-roll-CType C.ParamSort, ap out-CType (sym f) ∙ out-roll-CType C.TypeSort))
 fits-same sort sort e f g = g
 
-no-fit : {S T : CType} {t u : LinTerm} → Fits S T t u → (out-CType S ≡ C.TypeSort) × (out-CType T ≡ C.ParamSort) → ⊥
+pub no-fit : {S T : CType} {t u : LinTerm} → Fits S T t u → (out-CType S ≡ C.TypeSort) × (out-CType T ≡ C.ParamSort) → ⊥
 no-fit same h = cc
 no-fit (cut n s) h = no-subtype_back s h
 no-fit sort h = let i = out-roll-CType C.ParamSort in cc

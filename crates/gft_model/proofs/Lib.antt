@@ -9,6 +9,7 @@ pub mod CaseLaws
 pub mod JudgementLaws
 pub mod ProductionExamples
 pub mod ItemExamples
+pub mod NameExamples
 pub mod TypingExamples
 pub mod PatternLaws
 pub mod TypeLaws

@@ -1,5 +1,5 @@
 -- Worked examples of outcomes, each computed.
-use Rattle.std.proofs.Common.{◌≡◌, ℕ, List, [], ◌∷◌}
+use Rattle.std.proofs.Common.{◌≡◌, ℕ, List, [], ◌∷◌, Some}
 use Rattle.std.specs.Prelude.{codes}
 use Rattle.std.specs.Str.{chars}
 use lib.Utf8
@@ -9,11 +9,12 @@ use Rattle.gft_core.specs.declared.symbol.Sym.TheVariants.{Tok, Arg}
 use Rattle.gft_syntax.specs.declared.linear.LinTerm.{LinTerm, roll-LinTerm}
 use Rattle.gft_syntax.specs.declared.linear.LinTerm.TheOpen as L
 use Rattle.gft_syntax.specs.declared.linear.Predef.TheVariants.{Dp}
+use Rattle.gft_syntax.specs.declared.reference.Reference.TheVariants.{Written}
 use Rattle.gft_syntax.specs.declared.value.Value.TheViews.{out-roll-Value}
 use Rattle.gft_syntax.specs.declared.value.Param.TheViews.{out-roll-Param}
 use Rattle.gft_syntax.specs.declared.value.Value.TheFolds.{fold-roll-Value}
 use Rattle.gft_model.specs.ValueForms.{string_value, record_value}
-use Rattle.gft_model.specs.Outcomes.{outcomes_of, no_environment, none, Outcome, gives, stuck_at, glue_on_argument, match_on_argument, no_string_branch}
+use Rattle.gft_model.specs.Outcomes.{Results, opers_of, outcomes_of, no_environment, none, Outcome, gives, stuck_at, glue_on_argument, match_on_argument, no_string_branch}
 use Rattle.gft_syntax.specs.declared.ctype.CType.{roll-CType}
 use Rattle.gft_syntax.specs.declared.ctype.CType.TheOpen as C
 use Rattle.gft_syntax.specs.declared.linear.Branches.TheVariants.{Matched}
@@ -129,3 +130,22 @@ stuck_in_one = simp (results-roll, out-roll-Value)
 pub cut_to_s : cut_value (roll-CType (C.Record ((codes "s", roll-CType C.Str) ∷ []))) (record_value ((codes "s", string_value (Tok a ∷ [])) ∷ (codes "t", string_value (Tok b ∷ [])) ∷ []))
     ≡ record_value ((codes "s", string_value (Tok a ∷ [])) ∷ [])
 cut_to_s = simp (cut-roll, out-roll-Value)
+
+-- oper pl = \w -> case w of {x + "y" => x + "ies" ; _ => w + "s"}
+abbrev plural : LinTerm
+plural =
+    made (L.Lambda (Some (codes "w")) (case (made (L.Var (codes "w"))) (
+        (roll-Pattern (P.Seq (roll-Pattern (P.Name (Written (codes "x")) nowhere)) (text_pattern (codes "y")) nowhere), made (L.Glue (made (L.Var (codes "x"))) (word (codes "ies")) nowhere))
+        ∷ (any, made (L.Glue (made (L.Var (codes "w"))) (word (codes "s")) nowhere)) ∷ [])))
+
+abbrev opers : ℕ → Results
+opers = opers_of (Some (record { term = plural; ctype = roll-CType C.Str }) ∷ [])
+
+-- pl "fly" and pl "cat"
+pub plural_of_fly : outcomes_of opers (made (L.App (made (L.Oper 0)) (word (codes "fly")))) no_environment ≡ string (Tok (codes "flies") ∷ []) ∷ []
+unfolding chars lib.Utf8.encode
+plural_of_fly = simp (results-roll, match-roll, out-roll-Value)
+
+pub plural_of_cat : outcomes_of opers (made (L.App (made (L.Oper 0)) (word (codes "cat")))) no_environment ≡ string (Tok (codes "cats") ∷ []) ∷ []
+unfolding chars lib.Utf8.encode
+plural_of_cat = simp (results-roll, match-roll, out-roll-Value)
