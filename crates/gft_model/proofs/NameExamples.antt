@@ -1,5 +1,5 @@
 -- Worked examples of names that mean types: what fits PType, and [C].
-use Rattle.std.proofs.Common.{◌≡◌, refl, ap, sym, ◌∙◌, ℕ, List, [], ◌∷◌, Some, None, true, false, arith}
+use Rattle.std.proofs.Common.{◌≡◌, refl, ap, ◌∙◌, ℕ, List, [], ◌∷◌, Some, None, arith}
 use Rattle.std.specs.Prelude.{codes}
 use Rattle.gft_core.specs.declared.place.Place.{Place}
 use Rattle.gft_syntax.specs.declared.ctype.CType.{CType, out-CType, roll-CType}
@@ -17,9 +17,9 @@ use Rattle.gft_syntax.specs.declared.term.Term.TheOpen as F
 use Rattle.gft_model.specs.ConcreteTypes.{count_of}
 use Rattle.gft_model.specs.ConcreteTyping.{IsType, IsParameter, parameter_of, constructor, no_constructor, no_argument, parameters_named, definition_named, numbers_to, Finds, Checks, found, type_form, is_type_form, parameter_name, untyped_oper, parameter_given}
 use Rattle.gft_model.specs.Items.{Item, parameter_type, oper}
-use Rattle.gft_model.specs.TypeForms.{form, number_type, sort_type, sort_param, made, no_value}
+use Rattle.gft_model.specs.TypeForms.{sort_type, sort_param, made, no_value}
 use Rattle.gft_model.proofs.Computing.{form-roll}
-use Rattle.gft_model.proofs.FoundTypes.{find-once, check_form, check_form_is, same-tag, apart-tags, no-fit}
+use Rattle.gft_model.proofs.FoundTypes.{find-once, check_form_is, same-tag, apart-tags, no-fit}
 
 abbrev nowhere : Place
 nowhere = record { file = 0; line = 1; col = 1 }

@@ -135,8 +135,8 @@ cut_to_s = simp (cut-roll, out-roll-Value)
 abbrev plural : LinTerm
 plural =
     made (L.Lambda (Some (codes "w")) (case (made (L.Var (codes "w"))) (
-        (roll-Pattern (P.Seq (roll-Pattern (P.Name (Written (codes "x")) nowhere)) (text_pattern (codes "y")) nowhere), made (L.Glue (made (L.Var (codes "x"))) (word (codes "ies")) nowhere))
-        ∷ (any, made (L.Glue (made (L.Var (codes "w"))) (word (codes "s")) nowhere)) ∷ [])))
+    (roll-Pattern (P.Seq (roll-Pattern (P.Name (Written (codes "x")) nowhere)) (text_pattern (codes "y")) nowhere), made (L.Glue (made (L.Var (codes "x"))) (word (codes "ies")) nowhere))
+    ∷ (any, made (L.Glue (made (L.Var (codes "w"))) (word (codes "s")) nowhere)) ∷ [])))
 
 abbrev opers : ℕ → Results
 opers = opers_of (Some (record { term = plural; ctype = roll-CType C.Str }) ∷ [])

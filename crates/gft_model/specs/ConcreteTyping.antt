@@ -1,6 +1,6 @@
--- Concrete typing: which terms are types, which types are found for terms and which terms fit a
--- given type, each with the typed term that says what the term means.
-use Rattle.std.specs.Prelude.{◌≡◌, ℕ, suc, ◌+◌, ◌≤◌, List, [], ◌∷◌, ◌++◌, map, reverse, length, ◌⊎◌, Option, Some, None, IsTrue, Bool, true, false, ◌&&◌, bytes_eq, if◌then◌else◌, slice_get}
+-- Concrete typing: which types are found for terms and which terms fit a given type, each with the
+-- typed term that says what the term means.
+use Rattle.std.specs.Prelude.{◌≡◌, ℕ, ◌≤◌, List, [], ◌∷◌, ◌++◌, map, reverse, length, ◌⊎◌, Option, Some, None, IsTrue, Bool, true, false}
 use Rattle.std.specs.List.{list_all, list_any}
 use Rattle.gft_core.specs.Words.{words_of}
 use Rattle.gft_core.specs.declared.place.Place.{Place}
@@ -8,7 +8,6 @@ use Rattle.gft_syntax.specs.declared.bind.Bind.{Bind}
 use Rattle.gft_syntax.specs.declared.ctype.CType.{CType, out-CType}
 use Rattle.gft_syntax.specs.declared.ctype.CType.TheOpen as CType-F
 use Rattle.gft_syntax.specs.declared.judgement.Constructor.{Constructor}
-use Rattle.gft_syntax.specs.declared.judgement.Context.{Context}
 use Rattle.gft_syntax.specs.declared.linear.Branches.TheVariants.{Matched, Listed}
 use Rattle.gft_syntax.specs.declared.linear.LinTerm.{LinTerm}
 use Rattle.gft_syntax.specs.declared.linear.LinTerm.TheOpen as Lin-F
@@ -18,29 +17,18 @@ use Rattle.gft_syntax.specs.declared.reference.Whole.{Whole}
 use Rattle.gft_syntax.specs.declared.reference.Reference.TheVariants.{Written, Whole as WholeName}
 use Rattle.gft_syntax.specs.declared.term.Case.{Case}
 use Rattle.gft_syntax.specs.declared.term.Local.{Local}
-use Rattle.gft_syntax.specs.declared.term.Local.TheVariants.{Value, Label, TypedValue}
+use Rattle.gft_syntax.specs.declared.term.Local.TheVariants.{Value, TypedValue}
 use Rattle.gft_syntax.specs.declared.term.Sort.TheVariants as Sort-V
 use Rattle.gft_syntax.specs.declared.term.Term.{Term}
 use Rattle.gft_syntax.specs.declared.term.Term.TheOpen as Term-F
 use Rattle.gft_syntax.specs.Terms.{Layer}
-use Rattle.gft_model.specs.ConcreteTypes.{field_of, is_finite, count_of, values_of, IsSubtype}
-use Rattle.gft_model.specs.Items.{Item, parameter_type, oper, alternative}
-use Rattle.gft_model.specs.Matching.{same_whole, parameter, match_of, is_matched}
+use Rattle.gft_model.specs.ConcreteTypes.{field_of, count_of, values_of, IsSubtype}
+use Rattle.gft_model.specs.Items.{Item, alternative}
+use Rattle.gft_model.specs.Matching.{parameter, match_of, is_matched}
 use Rattle.gft_model.specs.PatternTyping.{Scope, PatternFits, Constructs}
-use Rattle.gft_model.specs.TypeForms.{FieldTypes, FieldTerms, BranchTerms, LocalTerms, form, str_type, number_type, record_type, table_type, functions, sort_type, sort_param, tuple_fields, made, no_value, bound, with_bound, bound_pattern, constructor_term, predef_type, predef_term, predef_named}
+use Rattle.gft_model.specs.TypeForms.{FieldTypes, FieldTerms, BranchTerms, LocalTerms, form, str_type, number_type, record_type, table_type, functions, sort_type, sort_param, made, no_value, bound, with_bound, bound_pattern, constructor_term, predef_type, predef_term, predef_named}
 use Rattle.gft_model.specs.Values.{extended}
-
--- a type of data: no function type. Functions stand nowhere else but in opers and what they give
-abbrev pub IsData : CType → Type 0
-IsData T = (A B : CType) → ¬ (out-CType T ≡ CType-F.Fun A B)
-
--- a type is used only with at most so many values
-abbrev pub most_values : ℕ
-most_values = 4096
-
--- a type that a table may be over
-abbrev pub IsDomain : CType → Type 0
-IsDomain P = (is_finite P ≡ true) × (count_of P ≤ most_values)
+pub use Rattle.gft_model.specs.WrittenTypes.{IsData, most_values, IsDomain, for_each, Standing, a_parameter, a_constructor, an_oper, an_overload, nothing, is_constructor, standing_from, At, Stands, IsType, text_type, type_of_types, type_of_parameters, numbers_to, labels, table_over, function_from, pair_of, parameters_named, oper_named, definition_named, IsParameter, parameter_of, AreConstructors, no_constructor, constructor, AreArguments, no_argument, arguments, AreLabels, no_label, label, AreFactors, last_factor, next_factor}
 
 -- each value of the type is matched by some pattern
 abbrev pub Covers : CType → List Pattern → Type 0
@@ -96,11 +84,6 @@ is_type_form (Term-F.Fields [] place) = false
 is_type_form (Term-F.Fields (l ∷ ls) place) = true
 is_type_form d = false
 
--- one for each variable; one where none is named
-abbrev pub for_each : {A : Type 0} → List Bind → A → List A
-for_each [] a = a ∷ []
-for_each (x ∷ xs) a = map (λ y. a) (x ∷ xs)
-
 -- the names of one local, the last the nearest
 abbrev pub with_names : List (List ℕ) → CType → Scope → Scope
 with_names xs T Γ = reverse (map (λ x. (x, T)) xs) ++ Γ
@@ -117,103 +100,7 @@ pub data Spine : Term → List Term → Term → List Term → Type 0 where
   at_head : {e : Term} {es : List Term} → ((f a : Term) (place : Place) →
       ¬ (form e ≡ Term-F.App f a place)) → Spine e es e es
 
--- what a whole name is in a grammar: a parameter type, one of its constructors, an oper with its number,
--- its type and its definition, an overload, or nothing
-pub data Standing : Type 0 where
-  a_parameter : List Constructor → Standing
-  a_constructor : Whole → List Constructor → Standing
-  an_oper : ℕ → Option Term → Option Term → Standing
-  an_overload : Standing
-  nothing : Standing
-
--- a constructor of the parameter type w
-abbrev pub is_constructor : Whole → Whole → List Constructor → Bool
-is_constructor c w cs = bytes_eq c.«module» w.«module» && list_any (λ d. bytes_eq c.name d.name.name) cs
-
--- the first item of the name, the items being numbered from k on
-abbrev pub standing_from : ℕ → List Item → Whole → Standing
-standing_from k [] w = nothing
-standing_from k (parameter_type v cs ∷ is) w =
-    if same_whole w v then a_parameter cs
-    else if is_constructor w v cs then a_constructor v cs else standing_from (suc k) is w
-standing_from k (oper v T d ∷ is) w = if same_whole w v then an_oper k T d else standing_from (suc k) is w
-standing_from k (alternative v T xs D d ∷ is) w = if same_whole w v then an_overload else standing_from (suc k) is w
-standing_from k (i ∷ is) w = standing_from (suc k) is w
-
 module _ (items : List Item) where
-  -- the item of that number
-  abbrev pub At : ℕ → Item → Type 0
-  At k i = slice_get items k ≡ Some i
-
-  -- what the whole name is
-  abbrev pub Stands : Whole → Standing → Type 0
-  Stands w s = standing_from 0 items w ≡ s
-
-  mutual
-    -- the term, where a type must stand, is the type
-    pub data IsType : Term → CType → Type 0 where
-      text_type : {e : Term} {place : Place} → form e ≡ Term-F.Sort Sort-V.Str place →
-          IsType e str_type
-      type_of_types : {e : Term} {place : Place} → form e ≡ Term-F.Sort Sort-V.TypeSort place →
-          IsType e sort_type
-      type_of_parameters : {e : Term} {place : Place} →
-          form e ≡ Term-F.Sort Sort-V.ParamSort place → IsType e sort_param
-      numbers_to : {e f a : Term} {n : ℕ} {p q r : Place} → form e ≡ Term-F.App f a p →
-          form f ≡ Term-F.Sort Sort-V.Ints q → form a ≡ Term-F.Num n r → n + 1 ≤ most_values →
-          IsType e (number_type n)
-      labels : {e : Term} {ls : List (Local Term)} {p : Place} {fs : FieldTypes} →
-          form e ≡ Term-F.Fields ls p → AreLabels ls fs → IsType e (record_type fs)
-      table_over : {e a b : Term} {p : Place} {P V : CType} → form e ≡ Term-F.TabType a b p →
-          IsType a P → IsDomain P → IsType b V → IsData V → IsType e (table_type P V)
-      function_from : {e a b : Term} {xs : List Bind} {p : Place} {A B : CType} →
-          form e ≡ Term-F.Arrow xs a b p → IsType a A → IsData A → IsType b B →
-          IsType e (functions (for_each xs A) B)
-      pair_of : {e a b : Term} {p : Place} {Ts : List CType} → form e ≡ Term-F.Pair a b p →
-          AreFactors e Ts → IsType e (record_type (tuple_fields 0 Ts))
-      parameters_named : {e : Term} {w : Whole} {p : Place} {T : CType} →
-          form e ≡ Term-F.Var (WholeName w) p → IsParameter w T → count_of T ≤ most_values →
-          IsType e T
-      oper_named : {e D d : Term} {w : Whole} (k : ℕ) {p : Place} {S T : CType} →
-          form e ≡ Term-F.Var (WholeName w) p → Stands w (an_oper k (Some D) (Some d)) →
-          IsType D S → (S ≡ sort_type) ⊎ (S ≡ sort_param) → IsType d T → IsType e T
-      definition_named : {e d : Term} {w : Whole} (k : ℕ) {p : Place} {T : CType} →
-          form e ≡ Term-F.Var (WholeName w) p → Stands w (an_oper k None (Some d)) →
-          ((q : Place) → ¬ (form d ≡ Term-F.Fields [] q)) → IsType d T → IsType e T
-
-    -- w names the parameter type, which has its constructors in order
-    pub data IsParameter : Whole → CType → Type 0 where
-      parameter_of : {w : Whole} {cs : List Constructor} {ds : List (Whole × List CType)} {T : CType} →
-          Stands w (a_parameter cs) → AreConstructors w cs ds → out-CType T ≡ CType-F.Param w ds →
-          IsParameter w T
-
-    -- the constructors with the types of their arguments
-    pub data AreConstructors : Whole → List Constructor → List (Whole × List CType) → Type 0 where
-      no_constructor : {w : Whole} → AreConstructors w [] []
-      constructor : {w : Whole} {c : Constructor} {cs : List Constructor} {Ts : List CType} {ds : List (Whole × List CType)} →
-          AreArguments c.arguments Ts → AreConstructors w cs ds →
-          AreConstructors w (c ∷ cs) ((record { «module» = w.«module»; name = c.name.name }, Ts) ∷ ds)
-
-    -- the types of a constructor's arguments, which are finite
-    pub data AreArguments : List Context → List CType → Type 0 where
-      no_argument : AreArguments [] []
-      arguments : {c : Context} {cs : List Context} {T : CType} {Ts : List CType} →
-          IsType c.of_type T → is_finite T ≡ true → AreArguments cs Ts →
-          AreArguments (c ∷ cs) (for_each c.binds T ++ Ts)
-
-    -- labels with types of data
-    pub data AreLabels : List (Local Term) → FieldTypes → Type 0 where
-      no_label : AreLabels [] []
-      label : {x : List ℕ} {t : Term} {ls : List (Local Term)} {T : CType} {fs : FieldTypes} →
-          IsType t T → IsData T → AreLabels ls fs → AreLabels (Label (x ∷ []) t ∷ ls) ((x, T) ∷ fs)
-
-    -- the types of a product; where the left side is a product in turn, its items stay
-    pub data AreFactors : Term → List CType → Type 0 where
-      last_factor : {e : Term} {T : CType} → ((a b : Term) (p : Place) →
-          ¬ (form e ≡ Term-F.Pair a b p)) → IsType e T → IsData T → AreFactors e (T ∷ [])
-      next_factor : {e a b : Term} {p : Place} {Ts : List CType} {T : CType} →
-          form e ≡ Term-F.Pair a b p → AreFactors a Ts → IsType b T → IsData T →
-          AreFactors e (Ts ++ T ∷ [])
-
   -- a function that takes as many arguments of these types as it has parameters
   pub data Takes : CType → LinTerm → List CType → List LinTerm → CType → LinTerm → Type 0 where
     takes_none : {R : CType} {t : LinTerm} → IsData R → Takes R t [] [] R t
@@ -228,8 +115,8 @@ module _ (items : List Item) where
     pub written : Term
     pub definition : Term
     pub its_type : CType
-    pub stands : At k (alternative w before binds written definition)
-    pub is_type : IsType written its_type
+    pub stands : At items k (alternative w before binds written definition)
+    pub is_type : IsType items written its_type
     pub taken : Takes its_type (made (Lin-F.Oper k)) As us R u
 
   -- it is the only one
@@ -240,7 +127,7 @@ module _ (items : List Item) where
   -- a head that is applied as it is found: no overload, and not Ints
   pub record IsHead (f : Term) : Type 0 where
     pub not_overloaded : (w : Whole) (p : Place) → form f ≡ Term-F.Var (WholeName w) p →
-        ¬ (Stands w an_overload)
+        ¬ (Stands items w an_overload)
     pub not_ints : (p : Place) → ¬ (form f ≡ Term-F.Sort Sort-V.Ints p)
 
   mutual
@@ -250,20 +137,20 @@ module _ (items : List Item) where
           form e ≡ Term-F.Var (Written x) p → field_of x Γ ≡ Some T →
           Finds Γ e T (made (Lin-F.Var x))
       constructor_name : {Γ : Scope} {e : Term} {w c : Whole} {cs : List Constructor} {p : Place} {Ts : List CType} {T : CType} →
-          form e ≡ Term-F.Var (WholeName c) p → Stands c (a_constructor w cs) → IsParameter w T →
+          form e ≡ Term-F.Var (WholeName c) p → Stands items c (a_constructor w cs) → IsParameter items w T →
           Constructs c Ts T → Finds Γ e (functions Ts T) (constructor_term Ts c)
       typed_oper : {Γ : Scope} {e D : Term} {d : Option Term} {w : Whole} (k : ℕ) {p : Place} {T : CType} →
-          form e ≡ Term-F.Var (WholeName w) p → Stands w (an_oper k (Some D) d) → IsType D T →
+          form e ≡ Term-F.Var (WholeName w) p → Stands items w (an_oper k (Some D) d) → IsType items D T →
           Finds Γ e T (made (Lin-F.Oper k))
       untyped_oper : {Γ : Scope} {e d : Term} {w : Whole} (k : ℕ) {p : Place} {T : CType} {t : LinTerm} →
-          form e ≡ Term-F.Var (WholeName w) p → Stands w (an_oper k None (Some d)) →
+          form e ≡ Term-F.Var (WholeName w) p → Stands items w (an_oper k None (Some d)) →
           Finds [] d T t → Finds Γ e T (made (Lin-F.Oper k))
       alternative_alone : {Γ : Scope} {e : Term} {w : Whole} (k : ℕ) {p : Place} {R : CType} {t : LinTerm} →
-          form e ≡ Term-F.Var (WholeName w) p → Stands w an_overload → Chosen w [] [] k R t →
+          form e ≡ Term-F.Var (WholeName w) p → Stands items w an_overload → Chosen w [] [] k R t →
           Finds Γ e R t
       parameter_name : {Γ : Scope} {e : Term} {w : Whole} {p : Place} {T : CType} →
-          form e ≡ Term-F.Var (WholeName w) p → IsParameter w T → Finds Γ e sort_type no_value
-      type_form : {Γ : Scope} {e : Term} {T : CType} → is_type_form (form e) ≡ true → IsType e T →
+          form e ≡ Term-F.Var (WholeName w) p → IsParameter items w T → Finds Γ e sort_type no_value
+      type_form : {Γ : Scope} {e : Term} {T : CType} → is_type_form (form e) ≡ true → IsType items e T →
           Finds Γ e sort_type no_value
       literal : {Γ : Scope} {e : Term} {text : List ℕ} {p : Place} → form e ≡ Term-F.Lit text p →
           Finds Γ e str_type (made (Lin-F.Words (words_of text)))
@@ -288,7 +175,7 @@ module _ (items : List Item) where
           Finds Γ e R u
       overloaded : {Γ : Scope} {e f a : Term} {es : List Term} {w : Whole} (k : ℕ) {p : Place}
           {As : List CType} {us : List LinTerm} {R : CType} {u : LinTerm} →
-          Spine e [] f (a ∷ es) → form f ≡ Term-F.Var (WholeName w) p → Stands w an_overload →
+          Spine e [] f (a ∷ es) → form f ≡ Term-F.Var (WholeName w) p → Stands items w an_overload →
           FindsAll Γ (a ∷ es) As us → Chosen w As us k R u → Finds Γ e R u
       selection : {Γ : Scope} {e a b : Term} {p : Place} {S P V : CType} {t u : LinTerm} →
           form e ≡ Term-F.Select a b p → is_table_expression (form a) ≡ false →
@@ -296,7 +183,7 @@ module _ (items : List Item) where
           Finds Γ e V (made (Lin-F.Select t u))
       branch_over : {Γ : Scope} {e a b P : Term} {cs : List (Case Term)} {p q : Place} {S V : CType}
           {u : LinTerm} {bs : BranchTerms} →
-          form e ≡ Term-F.Select a b p → form a ≡ Term-F.TableOf (Some P) cs q → IsType P S →
+          form e ≡ Term-F.Select a b p → form a ≡ Term-F.TableOf (Some P) cs q → IsType items P S →
           BranchesFind Γ S cs V bs → IsCovered S (patterns cs) → Checks Γ b S u →
           Finds Γ e V (made (Lin-F.Case u (Matched bs) p))
       branch_of : {Γ : Scope} {e a b : Term} {cs : List (Case Term)} {p q : Place} {S V : CType} {u : LinTerm}
@@ -305,18 +192,18 @@ module _ (items : List Item) where
           BranchesFind Γ S cs V bs → IsCovered S (patterns cs) →
           Finds Γ e V (made (Lin-F.Case u (Matched bs) p))
       item_of : {Γ : Scope} {e a b P : Term} {es : List Term} {p q : Place} {S V : CType} {u : LinTerm} {ts : List LinTerm} →
-          form e ≡ Term-F.Select a b p → form a ≡ Term-F.TableList P es q → IsType P S →
+          form e ≡ Term-F.Select a b p → form a ≡ Term-F.TableList P es q → IsType items P S →
           IsDomain S → MembersFind Γ es V ts → count_of S ≤ length es → Checks Γ b S u →
           Finds Γ e V (made (Lin-F.Case u (Listed S ts) p))
       case_found : {Γ : Scope} {e b : Term} {cs : List (Case Term)} {p : Place} {S V : CType} {u : LinTerm} {bs : BranchTerms} →
           form e ≡ Term-F.CaseOf b cs p → Finds Γ b S u → BranchesFind Γ S cs V bs →
           IsCovered S (patterns cs) → Finds Γ e V (made (Lin-F.Case u (Matched bs) p))
       table_found : {Γ : Scope} {e P : Term} {cs : List (Case Term)} {p : Place} {S V : CType} {bs : BranchTerms} →
-          form e ≡ Term-F.TableOf (Some P) cs p → IsType P S → IsDomain S →
+          form e ≡ Term-F.TableOf (Some P) cs p → IsType items P S → IsDomain S →
           BranchesFind Γ S cs V bs → Covers S (patterns cs) →
           Finds Γ e (table_type S V) (made (Lin-F.Table S (Matched bs)))
       list_found : {Γ : Scope} {e P : Term} {es : List Term} {p : Place} {S V : CType} {ts : List LinTerm} →
-          form e ≡ Term-F.TableList P es p → IsType P S → IsDomain S → MembersFind Γ es V ts →
+          form e ≡ Term-F.TableList P es p → IsType items P S → IsDomain S → MembersFind Γ es V ts →
           count_of S ≤ length es → Finds Γ e (table_type S V) (made (Lin-F.Table S (Listed S ts)))
       record_found : {Γ : Scope} {e : Term} {ls : List (Local Term)} {p : Place} {fs : FieldTypes} {ts : FieldTerms} →
           form e ≡ Term-F.Fields ls p → FieldsHave Γ [] ls fs ts →
@@ -326,7 +213,7 @@ module _ (items : List Item) where
           Finds Γ b T u → out-CType T ≡ CType-F.Record gs →
           Finds Γ e (record_type (extended fs gs)) (made (Lin-F.Extend t u))
       typed : {Γ : Scope} {e a b : Term} {p : Place} {T : CType} {t : LinTerm} →
-          form e ≡ Term-F.Typed a b p → IsType b T → Checks Γ a T t → Finds Γ e T t
+          form e ≡ Term-F.Typed a b p → IsType items b T → Checks Γ a T t → Finds Γ e T t
       let_found : {Γ Δ : Scope} {e b : Term} {ls : List (Local Term)} {p : Place} {ds : LocalTerms} {T : CType} {t : LinTerm} →
           form e ≡ Term-F.Let ls b p → Defines Γ ls Δ ds → Finds Δ b T t →
           Finds Γ e T (with_lets ds t)
@@ -345,11 +232,11 @@ module _ (items : List Item) where
           BranchesCheck Γ P cs V bs → Covers P (patterns cs) →
           Checks Γ e T (made (Lin-F.Table P (Matched bs)))
       branches_over : {Γ : Scope} {e D : Term} {cs : List (Case Term)} {p : Place} {T P V : CType} {bs : BranchTerms} →
-          form e ≡ Term-F.TableOf (Some D) cs p → out-CType T ≡ CType-F.Table P V → IsType D P →
+          form e ≡ Term-F.TableOf (Some D) cs p → out-CType T ≡ CType-F.Table P V → IsType items D P →
           BranchesCheck Γ P cs V bs → Covers P (patterns cs) →
           Checks Γ e T (made (Lin-F.Table P (Matched bs)))
       listed : {Γ : Scope} {e D : Term} {es : List Term} {p : Place} {T P V : CType} {ts : List LinTerm} →
-          form e ≡ Term-F.TableList D es p → out-CType T ≡ CType-F.Table P V → IsType D P →
+          form e ≡ Term-F.TableList D es p → out-CType T ≡ CType-F.Table P V → IsType items D P →
           MembersCheck Γ es V ts → count_of P ≤ length es →
           Checks Γ e T (made (Lin-F.Table P (Listed P ts)))
       record_given : {Γ : Scope} {e : Term} {ls : List (Local Term)} {p : Place} {T : CType}
@@ -370,7 +257,7 @@ module _ (items : List Item) where
           Checks Γ e sort_type no_value
       parameter_given : {Γ : Scope} {e : Term} {w c : Whole} {ds : List (Whole × List CType)} {p : Place}
           {T : CType} {t : LinTerm} →
-          form e ≡ Term-F.Var (WholeName w) p → Finds Γ e sort_type t → IsType e T →
+          form e ≡ Term-F.Var (WholeName w) p → Finds Γ e sort_type t → IsType items e T →
           out-CType T ≡ CType-F.Param c ds → Checks Γ e sort_param t
       found : {Γ : Scope} {e : Term} {S T : CType} {t u : LinTerm} →
           passes (form e) (out-CType T) ≡ false → Finds Γ e S t → Fits S T t u → Checks Γ e T u
@@ -444,12 +331,12 @@ module _ (items : List Item) where
           FieldsHave Γ gs (Value (x ∷ []) e ∷ ls) ((x, T) ∷ fs) ((x, t) ∷ ts)
       typed_given : {Γ : Scope} {gs fs : FieldTypes} {x : List ℕ} {e D : Term} {ls : List (Local Term)}
           {ts : FieldTerms} {S T : CType} {t u : LinTerm} →
-          field_of x gs ≡ Some T → IsType D S → Checks Γ e S t → Fits S T t u →
+          field_of x gs ≡ Some T → IsType items D S → Checks Γ e S t → Fits S T t u →
           FieldsHave Γ gs ls fs ts →
           FieldsHave Γ gs (TypedValue (x ∷ []) D e ∷ ls) ((x, T) ∷ fs) ((x, u) ∷ ts)
       typed_alone : {Γ : Scope} {gs fs : FieldTypes} {x : List ℕ} {e D : Term} {ls : List (Local Term)}
           {ts : FieldTerms} {S : CType} {t : LinTerm} →
-          field_of x gs ≡ None → IsType D S → IsData S → Checks Γ e S t →
+          field_of x gs ≡ None → IsType items D S → IsData S → Checks Γ e S t →
           FieldsHave Γ gs ls fs ts →
           FieldsHave Γ gs (TypedValue (x ∷ []) D e ∷ ls) ((x, S) ∷ fs) ((x, t) ∷ ts)
 
@@ -462,5 +349,5 @@ module _ (items : List Item) where
           Defines Γ (Value xs e ∷ ls) Δ ((xs, t) ∷ ds)
       typed_local : {Γ Δ : Scope} {xs : List (List ℕ)} {e D : Term} {ls : List (Local Term)} {ds : LocalTerms}
           {T : CType} {t : LinTerm} →
-          IsType D T → IsData T → Checks Γ e T t → Defines (with_names xs T Γ) ls Δ ds →
+          IsType items D T → IsData T → Checks Γ e T t → Defines (with_names xs T Γ) ls Δ ds →
           Defines Γ (TypedValue xs D e ∷ ls) Δ ((xs, t) ∷ ds)

@@ -6,6 +6,7 @@ pub mod Outcomes
 pub mod Items
 pub mod TypeForms
 pub mod PatternTyping
+pub mod WrittenTypes
 pub mod ConcreteTyping
 pub mod JudgementTyping
 pub mod Brackets

@@ -1,0 +1,134 @@
+-- Which terms are types where a type must stand, and what whole names mean there.
+use Rattle.std.specs.Prelude.{◌≡◌, ℕ, suc, ◌+◌, ◌≤◌, List, [], ◌∷◌, ◌++◌, map, ◌⊎◌, Option, Some, None, Bool, true, ◌&&◌, bytes_eq, if◌then◌else◌, slice_get}
+use Rattle.std.specs.List.{list_any}
+use Rattle.gft_core.specs.declared.place.Place.{Place}
+use Rattle.gft_syntax.specs.declared.bind.Bind.{Bind}
+use Rattle.gft_syntax.specs.declared.ctype.CType.{CType, out-CType}
+use Rattle.gft_syntax.specs.declared.ctype.CType.TheOpen as CType-F
+use Rattle.gft_syntax.specs.declared.judgement.Constructor.{Constructor}
+use Rattle.gft_syntax.specs.declared.judgement.Context.{Context}
+use Rattle.gft_syntax.specs.declared.reference.Whole.{Whole}
+use Rattle.gft_syntax.specs.declared.reference.Reference.TheVariants.{Whole as WholeName}
+use Rattle.gft_syntax.specs.declared.term.Local.{Local}
+use Rattle.gft_syntax.specs.declared.term.Local.TheVariants.{Label}
+use Rattle.gft_syntax.specs.declared.term.Sort.TheVariants as Sort-V
+use Rattle.gft_syntax.specs.declared.term.Term.{Term}
+use Rattle.gft_syntax.specs.declared.term.Term.TheOpen as Term-F
+use Rattle.gft_model.specs.ConcreteTypes.{is_finite, count_of}
+use Rattle.gft_model.specs.Items.{Item, parameter_type, oper, alternative}
+use Rattle.gft_model.specs.Matching.{same_whole}
+use Rattle.gft_model.specs.TypeForms.{FieldTypes, form, str_type, number_type, record_type, table_type, functions, sort_type, sort_param, tuple_fields}
+
+-- a type of data: no function type. Functions stand nowhere else but in opers and what they give
+abbrev pub IsData : CType → Type 0
+IsData T = (A B : CType) → ¬ (out-CType T ≡ CType-F.Fun A B)
+
+-- a type is used only with at most so many values
+abbrev pub most_values : ℕ
+most_values = 4096
+
+-- a type that a table may be over
+abbrev pub IsDomain : CType → Type 0
+IsDomain P = (is_finite P ≡ true) × (count_of P ≤ most_values)
+
+-- one for each variable; one where none is named
+abbrev pub for_each : {A : Type 0} → List Bind → A → List A
+for_each [] a = a ∷ []
+for_each (x ∷ xs) a = map (λ y. a) (x ∷ xs)
+
+-- what a whole name is in a grammar: a parameter type, one of its constructors, an oper with its number,
+-- its type and its definition, an overload, or nothing
+pub data Standing : Type 0 where
+  a_parameter : List Constructor → Standing
+  a_constructor : Whole → List Constructor → Standing
+  an_oper : ℕ → Option Term → Option Term → Standing
+  an_overload : Standing
+  nothing : Standing
+
+-- a constructor of the parameter type w
+abbrev pub is_constructor : Whole → Whole → List Constructor → Bool
+is_constructor c w cs = bytes_eq c.«module» w.«module» && list_any (λ d. bytes_eq c.name d.name.name) cs
+
+-- the first item of the name, the items being numbered from k on
+abbrev pub standing_from : ℕ → List Item → Whole → Standing
+standing_from k [] w = nothing
+standing_from k (parameter_type v cs ∷ is) w =
+    if same_whole w v then a_parameter cs
+    else if is_constructor w v cs then a_constructor v cs else standing_from (suc k) is w
+standing_from k (oper v T d ∷ is) w = if same_whole w v then an_oper k T d else standing_from (suc k) is w
+standing_from k (alternative v T xs D d ∷ is) w = if same_whole w v then an_overload else standing_from (suc k) is w
+standing_from k (i ∷ is) w = standing_from (suc k) is w
+
+module _ (items : List Item) where
+  -- the item of that number
+  abbrev pub At : ℕ → Item → Type 0
+  At k i = slice_get items k ≡ Some i
+
+  -- what the whole name is
+  abbrev pub Stands : Whole → Standing → Type 0
+  Stands w s = standing_from 0 items w ≡ s
+
+  mutual
+    -- the term, where a type must stand, is the type
+    pub data IsType : Term → CType → Type 0 where
+      text_type : {e : Term} {place : Place} → form e ≡ Term-F.Sort Sort-V.Str place →
+          IsType e str_type
+      type_of_types : {e : Term} {place : Place} → form e ≡ Term-F.Sort Sort-V.TypeSort place →
+          IsType e sort_type
+      type_of_parameters : {e : Term} {place : Place} →
+          form e ≡ Term-F.Sort Sort-V.ParamSort place → IsType e sort_param
+      numbers_to : {e f a : Term} {n : ℕ} {p q r : Place} → form e ≡ Term-F.App f a p →
+          form f ≡ Term-F.Sort Sort-V.Ints q → form a ≡ Term-F.Num n r → n + 1 ≤ most_values →
+          IsType e (number_type n)
+      labels : {e : Term} {ls : List (Local Term)} {p : Place} {fs : FieldTypes} →
+          form e ≡ Term-F.Fields ls p → AreLabels ls fs → IsType e (record_type fs)
+      table_over : {e a b : Term} {p : Place} {P V : CType} → form e ≡ Term-F.TabType a b p →
+          IsType a P → IsDomain P → IsType b V → IsData V → IsType e (table_type P V)
+      function_from : {e a b : Term} {xs : List Bind} {p : Place} {A B : CType} →
+          form e ≡ Term-F.Arrow xs a b p → IsType a A → IsData A → IsType b B →
+          IsType e (functions (for_each xs A) B)
+      pair_of : {e a b : Term} {p : Place} {Ts : List CType} → form e ≡ Term-F.Pair a b p →
+          AreFactors e Ts → IsType e (record_type (tuple_fields 0 Ts))
+      parameters_named : {e : Term} {w : Whole} {p : Place} {T : CType} →
+          form e ≡ Term-F.Var (WholeName w) p → IsParameter w T → count_of T ≤ most_values →
+          IsType e T
+      oper_named : {e D d : Term} {w : Whole} (k : ℕ) {p : Place} {S T : CType} →
+          form e ≡ Term-F.Var (WholeName w) p → Stands w (an_oper k (Some D) (Some d)) →
+          IsType D S → (S ≡ sort_type) ⊎ (S ≡ sort_param) → IsType d T → IsType e T
+      definition_named : {e d : Term} {w : Whole} (k : ℕ) {p : Place} {T : CType} →
+          form e ≡ Term-F.Var (WholeName w) p → Stands w (an_oper k None (Some d)) →
+          ((q : Place) → ¬ (form d ≡ Term-F.Fields [] q)) → IsType d T → IsType e T
+
+    -- w names the parameter type, which has its constructors in order
+    pub data IsParameter : Whole → CType → Type 0 where
+      parameter_of : {w : Whole} {cs : List Constructor} {ds : List (Whole × List CType)} {T : CType} →
+          Stands w (a_parameter cs) → AreConstructors w cs ds → out-CType T ≡ CType-F.Param w ds →
+          IsParameter w T
+
+    -- the constructors with the types of their arguments
+    pub data AreConstructors : Whole → List Constructor → List (Whole × List CType) → Type 0 where
+      no_constructor : {w : Whole} → AreConstructors w [] []
+      constructor : {w : Whole} {c : Constructor} {cs : List Constructor} {Ts : List CType} {ds : List (Whole × List CType)} →
+          AreArguments c.arguments Ts → AreConstructors w cs ds →
+          AreConstructors w (c ∷ cs) ((record { «module» = w.«module»; name = c.name.name }, Ts) ∷ ds)
+
+    -- the types of a constructor's arguments, which are finite
+    pub data AreArguments : List Context → List CType → Type 0 where
+      no_argument : AreArguments [] []
+      arguments : {c : Context} {cs : List Context} {T : CType} {Ts : List CType} →
+          IsType c.of_type T → is_finite T ≡ true → AreArguments cs Ts →
+          AreArguments (c ∷ cs) (for_each c.binds T ++ Ts)
+
+    -- labels with types of data
+    pub data AreLabels : List (Local Term) → FieldTypes → Type 0 where
+      no_label : AreLabels [] []
+      label : {x : List ℕ} {t : Term} {ls : List (Local Term)} {T : CType} {fs : FieldTypes} →
+          IsType t T → IsData T → AreLabels ls fs → AreLabels (Label (x ∷ []) t ∷ ls) ((x, T) ∷ fs)
+
+    -- the types of a product; where the left side is a product in turn, its items stay
+    pub data AreFactors : Term → List CType → Type 0 where
+      last_factor : {e : Term} {T : CType} → ((a b : Term) (p : Place) →
+          ¬ (form e ≡ Term-F.Pair a b p)) → IsType e T → IsData T → AreFactors e (T ∷ [])
+      next_factor : {e a b : Term} {p : Place} {Ts : List CType} {T : CType} →
+          form e ≡ Term-F.Pair a b p → AreFactors a Ts → IsType b T → IsData T →
+          AreFactors e (Ts ++ T ∷ [])
