@@ -5,6 +5,7 @@ pub mod MatchExamples
 pub mod TypeExamples
 pub mod SourceExamples
 pub mod TermTreeExamples
+pub mod CompiledExamples
 pub mod CaseLaws
 pub mod JudgementLaws
 pub mod ProductionExamples

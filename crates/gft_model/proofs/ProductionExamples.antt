@@ -27,7 +27,7 @@ use Rattle.gft_model.specs.ValueForms.{con_param}
 use Rattle.gft_model.proofs.Computing.{results-roll, match-roll, default-roll, numbered_value-roll, numbered_next-roll, string_leaves-roll, first_string-roll, case_values-roll, case_of-roll}
 use Rattle.gft_model.proofs.TermTreeExamples.{nowhere, whole, named, nothing, entry, category, made, word, field_s, a_lincat, a_lin, twice}
 
-abbrev production : List (List Param) → List Param → List (List Sym) → CaseProduction
+abbrev pub production : List (List Param) → List Param → List (List Sym) → CaseProduction
 production arguments result sequences = record { arguments = arguments; result = result; sequences = sequences }
 
 -- Dup has one production, which says the argument twice; A has two
@@ -38,29 +38,29 @@ pub of_a : productions_of twice (codes "TwiceEng") (codes "A") ≡ production []
 of_a = simp (fold-roll-Term, case_of-roll, results-roll, string_leaves-roll)
 
 -- param G = Ma | Fe; lincat K = {s : Str ; g : G}
-abbrev gender : List ℕ → Param
+abbrev pub gender : List ℕ → Param
 gender x = con_param (whole x) []
 
-abbrev gender_type : CType
+abbrev pub gender_type : CType
 gender_type = roll-CType (C.Param (whole (codes "G")) ((whole (codes "Ma"), []) ∷ (whole (codes "Fe"), []) ∷ []))
 
-abbrev noun_type : CType
+abbrev pub noun_type : CType
 noun_type = roll-CType (C.Record ((codes "g", gender_type) ∷ (codes "s", roll-CType C.Str) ∷ []))
 
-abbrev gender_pattern : List ℕ → Pattern
+abbrev pub gender_pattern : List ℕ → Pattern
 gender_pattern x = roll-Pattern (P.Name (WholeName (whole x)) nowhere)
 
 -- {s = w ; g = x}
-abbrev noun : List ℕ → List ℕ → Option Typed
+abbrev pub noun : List ℕ → List ℕ → Option Typed
 noun w x = a_lin (made (L.Record ((codes "s", word w) ∷ (codes "g", made (L.Con (whole x) [])) ∷ [])))
 
 -- case k.g of {Ma => "x" ; Fe => "x"}
-abbrev by_gender : LinTerm
+abbrev pub by_gender : LinTerm
 by_gender =
     made (L.Case (made (L.Proj (made (L.Var (codes "k"))) (codes "g"))) (Matched ((gender_pattern (codes "Ma"), word (codes "x")) ∷ (gender_pattern (codes "Fe"), word (codes "x")) ∷ [])) nowhere)
 
 -- fun f : K -> S ; m, n : K, with lin f k = {s = case k.g of ..} ; m = {s = "m" ; g = Ma} ; n = {s = "n" ; g = Fe}
-abbrev gend : Flat
+abbrev pub gend : Flat
 gend = record {
   name = Some (codes "Gend");
   start = Some (codes "S");

@@ -20,6 +20,7 @@ pub mod Source
 pub mod Grammar
 pub mod ModuleGrammar
 pub mod Productions
+pub mod Compiled
 pub mod Refusals
 pub mod SourceLaws
 pub mod Resting
