@@ -32,7 +32,7 @@ heading_fits = (
   ((omega arith, refl), ((omega arith, (refl, refl)), (omega arith, (((omega arith, refl), refl), omega arith)))),
 )
 
-abbrev only_function : List FunctionFields
+abbrev pub only_function : List FunctionFields
 only_function = function_fields abs.funs (record { name = codes "a"; args = []; result = record { cat = 2; args = [] } }) ∷ []
 
 word_fits : Fits (symbol []) (Tok (codes "a"))
@@ -42,7 +42,7 @@ word_fits = ((omega arith, refl), (refl, (omega arith, (refl, refl))))
 component_fits : Fits (symbol (1 ∷ [])) (Arg 0 0)
 component_fits = ((omega arith, refl), (refl, ((omega arith, refl), (omega arith, refl))))
 
-concrete_fits : Fits (concrete 1 only_function) (concrete_fields eng)
+pub concrete_fits : Fits (concrete 1 only_function) (concrete_fields eng)
 unfolding is_utf8 chars lib.Utf8.encode is_xid_start is_xid_continue xid_start_ranges xid_continue_ranges in_ranges
 concrete_fits = (
   (omega arith, (refl, refl)),
