@@ -9,9 +9,7 @@ use Rattle.gft_pmcfg.specs.declared.signature.Abstract.{Abstract}
 use Rattle.gft_pmcfg.specs.declared.signature.Cat.{Cat}
 use Rattle.gft_syntax.specs.declared.flat.Flat.{Flat}
 use Rattle.gft_syntax.specs.declared.judgement.Judgement.TheVariants as J
-use Rattle.gft_syntax.specs.declared.ctype.CType.TheFolds.{fold-roll-CType}
 use Rattle.gft_syntax.specs.declared.term.Term.TheFolds.{fold-roll-Term}
-use Rattle.gft_syntax.specs.declared.value.Param.TheFolds.{fold-roll-Param}
 use Rattle.gft_syntax.specs.declared.value.Param.TheViews.{out-roll-Param}
 use Rattle.gft_syntax.specs.declared.value.Value.TheViews.{out-roll-Value}
 use Rattle.gft_model.specs.Compiled.{Compiles, infos_from, nonterminal, productions_from, defs_in, refs_in}
