@@ -39,6 +39,10 @@ pub mod FieldLaws
 pub mod ReadingExamples
 pub mod FlawLaws
 pub mod ReadingLaws
+pub mod TermNumbers
+pub mod OneGrammar
+pub mod OneFile
+pub mod NoFlaw
 pub mod TypedTreeExamples
 pub mod KeptExamples
 pub mod NilExamples

@@ -15,7 +15,7 @@ use Rattle.gft_model.specs.Typing.{HoleTypes, HasType, IsType}
 use Rattle.gft_model.specs.Flaws.{Flaw, HasTypeFlaw}
 use Rattle.gft_model.specs.Fields.{Fits, outcome, got}
 use Rattle.gft_model.specs.FileForms.{file}
-use Rattle.gft_model.specs.PortableFile.{fields_of, file_bytes, Reads, HasFault}
+use Rattle.gft_model.specs.PortableFile.{fields_of, file_bytes, Reads, HasFault, IsInvalid}
 use Rattle.gft_model.specs.Skeleton.{HoleCategories, HasSkeletonType}
 use Rattle.gft_model.specs.Brackets.{Piece, erased}
 use Rattle.gft_model.specs.Runs.{Strings, IsRun, IsRef, IsRunFor, components_of, yield_of, holes_of, tree_of}
@@ -130,3 +130,12 @@ GrammarHasNoFault = (bytes : List ℕ) (g : Grammar) (rule : Rule) (at : ℕ) �
 abbrev pub FaultIsDetermined : Type 0
 FaultIsDetermined = (bytes : List ℕ) (first second : Rule) (i j : ℕ) → HasFault bytes first i
     → HasFault bytes second j → (first ≡ second) × (i ≡ j)
+
+-- bytes are those of one grammar
+abbrev pub FileIsOfOneGrammar : Type 0
+FileIsOfOneGrammar = (bytes : List ℕ) (g h : Grammar) → Reads bytes g → Reads bytes h
+    → (g.abs ≡ h.abs) × (g.concretes ≡ h.concretes)
+
+-- and not those of one with a flaw
+abbrev pub GrammarIsNotInvalid : Type 0
+GrammarIsNotInvalid = (bytes : List ℕ) (g : Grammar) (flaw : Flaw) (at : ℕ) → Reads bytes g → ¬ IsInvalid bytes flaw at

@@ -1,5 +1,5 @@
 //! Laws of the definitions. Each function does nothing; its clause is the law.
-ghost use Rattle.gft_model.specs.Laws.{CutCoversTree, ListedCoversTree, SolutionIsUnique, ErasedIsString, YieldIsDetermined, NonterminalIsDetermined, ValueIsOfRun, RunGivesValue, StringIsOfRun, RunGivesString, TypeIsDetermined, TypedHasSkeletonType, FlawedIsNoType, FieldsAreReadAgain, GrammarHasNoFault, FaultIsDetermined};
+ghost use Rattle.gft_model.specs.Laws.{CutCoversTree, ListedCoversTree, SolutionIsUnique, ErasedIsString, YieldIsDetermined, NonterminalIsDetermined, ValueIsOfRun, RunGivesValue, StringIsOfRun, RunGivesString, TypeIsDetermined, TypedHasSkeletonType, FlawedIsNoType, FieldsAreReadAgain, GrammarHasNoFault, FaultIsDetermined, FileIsOfOneGrammar, GrammarIsNotInvalid};
 
 /// The solution of a pattern is unique: it fixes the numbers of its holes too.
 pub fn solution_is_unique()
@@ -82,4 +82,14 @@ pub fn grammar_has_no_fault()
 /// A file has at most one first fault.
 pub fn fault_is_determined()
     ensures { FaultIsDetermined }
+{}
+
+/// The bytes of a file are those of one grammar.
+pub fn file_is_of_one_grammar()
+    ensures { FileIsOfOneGrammar }
+{}
+
+/// The bytes of a grammar are not those of one with a flaw.
+pub fn grammar_is_not_invalid()
+    ensures { GrammarIsNotInvalid }
 {}
