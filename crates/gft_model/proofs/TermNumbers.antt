@@ -142,10 +142,10 @@ alone_each fs gs n m [] [] each h k e = refl
 alone_each fs gs n m [] (u ∷ us) each h k e = cc
 alone_each fs gs n m (t ∷ ts) [] each h k e = cc
 alone_each fs gs n m (t ∷ ts) (u ∷ us) each h k e =
-    let p = and_parts _ _ h in
-    let q = and_parts _ _ k in
     let first : numbered fs t ≡ numbered gs u = cc in
     let others : map (numbered fs) ts ≡ map (numbered gs) us = cc in
+    let p = and_parts _ _ h in
+    let q = and_parts _ _ k in
     let one = each.0 u p.0 q.0 first in
     let rest = alone_each fs gs n m ts us each.1 p.1 q.1 others in
     ap (λ (x : Tree). x ∷ ts) one ∙ ap (λ (xs : List Tree). u ∷ xs) rest
