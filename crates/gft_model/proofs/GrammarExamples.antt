@@ -1,6 +1,6 @@
 -- What makes a grammar, and the flaws of two that make none.
 use Rattle.std.specs.Prelude.{◌≡◌, ℕ, true, false, All, List, [], ◌∷◌, codes, take}
-use Rattle.std.proofs.Common.{refl, arith}
+use Rattle.std.proofs.Common.{ap, length, refl, arith}
 use Rattle.std.specs.Str.{is_utf8, chars}
 use lib.Utf8
 use Rattle.ucd_derived.specs.Binary.{is_xid_start, is_xid_continue}
@@ -11,18 +11,20 @@ use Rattle.gft_core.specs.declared.symbol.Sym.TheVariants.{Tok, Arg}
 use Rattle.gft_pmcfg.specs.declared.signature.AType.{AType}
 use Rattle.gft_pmcfg.specs.declared.signature.Cat.{Cat}
 use Rattle.gft_pmcfg.specs.declared.signature.Abstract.{Abstract}
+use Rattle.gft_pmcfg.specs.declared.grammar.Grammar.{Grammar}
 use Rattle.gft_rules.specs.declared.rule.Rule.TheVariants.{BadOrder}
 use Rattle.gft_model.specs.Typing.{HoleTypes, IsType, IsCategoryTyped, IsFunctionTyped, HasTypes, none}
-use Rattle.gft_model.specs.Flaws.{arity, unproductive, here, too_few}
+use Rattle.gft_model.specs.Flaws.{Flaw, arity, unproductive, here, too_few}
 use Rattle.gft_model.specs.Runs as runs
 use Rattle.gft_model.specs.Runs.{IsKept, MayBeHole}
 use Rattle.gft_model.specs.Fields.{Fits}
 use Rattle.gft_model.specs.FileForms.{FunctionFields, heading, symbol, concrete, file}
-use Rattle.gft_model.specs.PortableFile.{file_bytes, heading_fields, function_fields, concrete_fields, fields_of, listed, IsGrammar, IsReduced, HasFault, of_field, IsFlawed, of_category, of_production}
+use Rattle.gft_model.specs.PortableFile.{file_bytes, heading_fields, function_fields, concrete_fields, fields_of, listed, IsGrammar, IsReduced, Reads, IsInvalid, HasFault, of_field, IsFlawed, of_category, of_production}
 use Rattle.gft_model.proofs.RunLemmas.{all_none, all_one, all_from}
 use Rattle.gft_model.proofs.Tiny.{abs, eng}
 use Rattle.gft_model.proofs.Grammars.{dead, barren_eng}
 use Rattle.gft_model.proofs.KeptExamples.{f_not_kept}
+use Rattle.gft_model.proofs.NoFlaw.{no_flaw}
 
 -- the fields of T
 heading_fits : Fits heading (heading_fields abs)
@@ -85,7 +87,29 @@ reduced : All IsReduced (eng ∷ [])
 reduced = all_one IsReduced eng (all_from (IsKept eng) eng.prods (([], runs.none, all_none (MayBeHole eng)), tt))
 
 tiny_is_grammar : IsGrammar abs (eng ∷ [])
-tiny_is_grammar = record { in_range = refl; fields = fields; types = types; reduced = reduced }
+tiny_is_grammar = record { fields = record { in_range = refl; fits = fields }; types = types; reduced = reduced }
+
+-- so is its abstract syntax alone
+alone_is_grammar : IsGrammar abs []
+unfolding is_utf8 chars lib.Utf8.encode is_xid_start is_xid_continue xid_start_ranges xid_continue_ranges in_ranges
+alone_is_grammar = record {
+  fields = record { in_range = refl; fits = (heading_fits, (fields.1.0, (fields.1.1.0, (omega arith, refl)))) };
+  types = types;
+  reduced = all_none IsReduced;
+}
+
+-- its bytes are read as it, it has no flaw, and other bytes are not its own
+abbrev tiny : Grammar
+tiny = record { abs = abs; concretes = eng ∷ []; in_range = refl }
+
+tiny_is_read : Reads (file_bytes abs (eng ∷ [])) tiny
+tiny_is_read = record { grammar = tiny_is_grammar; bytes_are = refl }
+
+tiny_has_no_flaw : (flaw : Flaw) (at : ℕ) → ¬ IsFlawed abs (eng ∷ []) flaw at
+tiny_has_no_flaw flaw at d = no_flaw tiny_is_grammar d
+
+one_byte_is_not_tiny : ¬ Reads (0 ∷ []) tiny
+one_byte_is_not_tiny r = absurd (omega (arith, ap length r.bytes_are))
 
 -- two functions out of order
 abbrev of_s : AType
@@ -100,7 +124,7 @@ swapped = record {
 }
 
 swapped_is_no_grammar : ¬ IsGrammar swapped []
-swapped_is_no_grammar g = let wrong : false ≡ true = g.fields.1.1.0.1.0.1 in cc
+swapped_is_no_grammar g = let wrong : false ≡ true = g.fields.fits.1.1.0.1.0.1 in cc
 
 swapped_is_out_of_order : HasFault (file_bytes swapped []) BadOrder 51
 unfolding is_utf8 chars lib.Utf8.encode is_xid_start is_xid_continue xid_start_ranges xid_continue_ranges in_ranges
@@ -126,6 +150,32 @@ lacks_index : IsFlawed lacking [] arity 51
 lacks_index = of_category 2 refl
     (all_from (IsCategoryTyped lacking) (take 2 (listed lacking.cats)) (tt, ((plain_typed, tt), tt)))
     (here (record { category = category (codes "B") (of_s ∷ []); numbered = refl; indices = too_few }))
+
+-- its fields are in order, so the file is invalid, and at no fault before
+lacking_fits : Fits file (fields_of lacking [])
+unfolding is_utf8 chars lib.Utf8.encode is_xid_start is_xid_continue xid_start_ranges xid_continue_ranges in_ranges
+lacking_fits = (
+  ((refl, refl), ((omega arith, refl), ((omega arith, (refl, refl)), (omega arith, (((omega arith, refl), refl), omega arith))))),
+  (
+    (
+      (((omega arith, (refl, refl)), (omega arith, refl)), refl),
+      (
+        (((omega arith, (refl, refl)), (omega arith, (((omega arith, refl), (omega arith, refl)), refl))), refl),
+        ((((omega arith, (refl, refl)), (omega arith, (((omega arith, refl), (omega arith, refl)), refl))), refl), refl),
+      ),
+    ),
+    (refl, (omega arith, refl)),
+  ),
+)
+
+lacking_is_invalid : IsInvalid (file_bytes lacking []) arity 51
+lacking_is_invalid = record {
+  abs = lacking;
+  concretes = [];
+  fields = record { in_range = refl; fits = lacking_fits };
+  bytes_are = refl;
+  flawed = lacks_index;
+}
 
 -- a production that is not kept: heading 28, categories 18, functions 67, their number 4, name 13, categories 16, number 4
 of_d : {T : HoleTypes} → IsType dead T (record { cat = 2; args = [] })

@@ -1,5 +1,5 @@
 -- A grammar has no flaw, and its bytes are those of no other.
-use Rattle.std.specs.Prelude.{◌≡◌, ◌≤◌, ℕ, zero, suc, true, All, List, [], ◌∷◌, length, map, Contains, Option, Some, None, slice_get, IsTrue, ⊤}
+use Rattle.std.specs.Prelude.{◌≡◌, ◌≤◌, ℕ, zero, suc, true, All, List, [], ◌∷◌, length, map, Contains, Option, Some, None, slice_get, ⊤}
 use Rattle.std.specs.Cmp.Lexicographic.{slice_cmp, nat_list_cmp_total}
 use Rattle.std.specs.Ordering.{nat_cmp}
 use Rattle.std.specs.declared.cmp.Ordering.{Ordering}
@@ -11,13 +11,12 @@ use Rattle.gft_pmcfg.specs.declared.signature.Fun.{Fun}
 use Rattle.gft_pmcfg.specs.declared.signature.Abstract.{Abstract}
 use Rattle.gft_pmcfg.specs.declared.concrete.Concrete.{Concrete}
 use Rattle.gft_pmcfg.specs.declared.grammar.Grammar.{Grammar}
-use Rattle.gft_pmcfg.specs.Ranges.{is_in_range}
 use Rattle.gft_model.specs.Typing.{IsCategoryTyped, IsFunctionTyped, AreTypes, numbered_from}
 use Rattle.gft_model.specs.Flaws.{Flaw, HaveTypesFlaw, here, later}
 use Rattle.gft_model.specs.Runs.{IsKept}
 use Rattle.gft_model.specs.Fields.{Form, Fits, got, outcome}
 use Rattle.gft_model.specs.FileForms.{Text, file, is_less, comes_after, ascending}
-use Rattle.gft_model.specs.PortableFile.{listed, function_fields, fields_of, file_bytes, IsGrammar, IsReduced, IsFlawed, of_category, of_function, of_production, IsInvalid, Reads}
+use Rattle.gft_model.specs.PortableFile.{listed, function_fields, fields_of, file_bytes, HasFields, IsGrammar, IsReduced, IsFlawed, of_category, of_function, of_production, IsInvalid, Reads}
 use Rattle.gft_model.specs.Laws.{AreNamedApart, HaveOneType}
 use Rattle.gft_model.proofs.FlawLaws.{flaw_has_no_type}
 use Rattle.gft_model.proofs.ReadingLaws.{fields_again}
@@ -115,10 +114,10 @@ functions_apart a cs h = named_apart None a.funs (subst (Rise None) (names_of_fi
 -- a grammar has no flaw
 pub no_flaw : {a : Abstract} {cs : List Concrete} {flaw : Flaw} {at : ℕ} → IsGrammar a cs → IsFlawed a cs flaw at → ⊥
 no_flaw {a} {cs} g (of_category i {c} e before d) =
-    types_flaw (functions_apart a cs g.fields) d (at_place (IsCategoryTyped a) (listed a.cats) i c
+    types_flaw (functions_apart a cs g.fields.fits) d (at_place (IsCategoryTyped a) (listed a.cats) i c
     (all_listed (IsCategoryTyped a) a.cats g.types.0) e)
 no_flaw {a} {cs} g (of_function k {f} cats e before d) =
-    types_flaw (functions_apart a cs g.fields) d (at_place (IsFunctionTyped a) a.funs k f g.types.1 e)
+    types_flaw (functions_apart a cs g.fields.fits) d (at_place (IsFunctionTyped a) a.funs k f g.types.1 e)
 no_flaw {a} {cs} g (of_production l p {c} {prod} types e before i earlier n) =
     n (at_place (IsKept c) c.prods p prod (at_place IsReduced cs l c g.reduced e) i)
 
@@ -129,16 +128,16 @@ same_fields a b cs ds h k e =
     let both : got (fields_of a cs) (length (file_bytes a cs)) [] ≡ got (fields_of b ds) (length (file_bytes b ds)) []
     = sym (fields_again a cs h) ∙ ap (outcome file 0) e ∙ fields_again b ds k in cc
 
-pub reads_once : (a b : Abstract) (cs ds : List Concrete) → IsTrue (is_in_range a cs) → IsTrue (is_in_range b ds)
-    → Fits file (fields_of a cs) → Fits file (fields_of b ds) → file_bytes a cs ≡ file_bytes b ds → (a ≡ b) × (cs ≡ ds)
-reads_once a b cs ds i j h k e =
-    one_grammar a b cs ds i j h.0.1.1.1.1.1 k.0.1.1.1.1.1 (same_fields a b cs ds h k e)
+pub reads_once : (a b : Abstract) (cs ds : List Concrete) → HasFields a cs → HasFields b ds
+    → file_bytes a cs ≡ file_bytes b ds → (a ≡ b) × (cs ≡ ds)
+reads_once a b cs ds h k e =
+    one_grammar a b cs ds h.in_range k.in_range h.fits.0.1.1.1.1.1 k.fits.0.1.1.1.1.1
+    (same_fields a b cs ds h.fits k.fits e)
 
 -- so bytes of a grammar are not those of one with a flaw
 pub not_invalid : {bytes : List ℕ} {g : Grammar} {flaw : Flaw} {at : ℕ} → Reads bytes g → IsInvalid bytes flaw at → ⊥
 not_invalid {g} {flaw} {at} r x =
-    let same = reads_once g.abs x.abs g.concretes x.concretes r.grammar.in_range x.in_range r.grammar.fields x.fields
-    (r.bytes_are ∙ sym x.bytes_are) in
+    let same = reads_once g.abs x.abs g.concretes x.concretes r.grammar.fields x.fields (r.bytes_are ∙ sym x.bytes_are) in
     let moved : IsFlawed g.abs x.concretes flaw at
     = subst (λ (a : Abstract). IsFlawed a x.concretes flaw at) (sym same.0) x.flawed in
     no_flaw r.grammar (subst (λ (cs : List Concrete). IsFlawed g.abs cs flaw at) (sym same.1) moved)

@@ -21,16 +21,43 @@ use Rattle.gft_model.proofs.OneGrammar.{same_list, same_map, same_category, same
 same_sequences : (xs ys : List (List Sym)) → map sequence_fields xs ≡ map sequence_fields ys → xs ≡ ys
 same_sequences = same_map sequence_fields (λ x y e. ap (λ s. s.1) e)
 
+-- records of the same parts
+prod_of_parts : (p q : Prod) → p.fun ≡ q.fun → p.args ≡ q.args → p.result ≡ q.result → p.seqs ≡ q.seqs → p ≡ q
+prod_of_parts p q funs args results seqs =
+    ap (λ f. record { fun = f; args = p.args; result = p.result; seqs = p.seqs }) funs
+    ∙ ap (λ (x : List ℕ). record { fun = q.fun; args = x; result = p.result; seqs = p.seqs }) args
+    ∙ ap (λ r. record { fun = q.fun; args = q.args; result = r; seqs = p.seqs }) results
+    ∙ ap (λ (x : List (List Sym)). record { fun = q.fun; args = q.args; result = q.result; seqs = x }) seqs
+
+info_of_parts : (x y : Info) → x.first ≡ y.first → x.count ≡ y.count → x.dim ≡ y.dim → x ≡ y
+info_of_parts x y firsts counts dims =
+    ap (λ n. record { first = n; count = x.count; dim = x.dim }) firsts
+    ∙ ap (λ n. record { first = y.first; count = n; dim = x.dim }) counts
+    ∙ ap (λ n. record { first = y.first; count = y.count; dim = n }) dims
+
+concrete_of_parts : (c d : Concrete) → c.name ≡ d.name → c.infos ≡ d.infos → c.prods ≡ d.prods → c.defs ≡ d.defs
+    → c.refs ≡ d.refs → c ≡ d
+concrete_of_parts c d names infos prods defs refs =
+    ap (λ w. record { name = w; infos = c.infos; prods = c.prods; defs = c.defs; refs = c.refs }) names
+    ∙ ap (λ (x : List Info). record { name = d.name; infos = x; prods = c.prods; defs = c.defs; refs = c.refs }) infos
+    ∙ ap (λ (x : List Prod). record { name = d.name; infos = d.infos; prods = x; defs = c.defs; refs = c.refs }) prods
+    ∙ ap (λ (x : List Def). record { name = d.name; infos = d.infos; prods = d.prods; defs = x; refs = c.refs }) defs
+    ∙ ap (λ (x : List Ref). record { name = d.name; infos = d.infos; prods = d.prods; defs = d.defs; refs = x }) refs
+
+abstract_of_parts : (a b : Abstract) → a.name ≡ b.name → a.start ≡ b.start → a.cats ≡ b.cats → a.funs ≡ b.funs → a ≡ b
+abstract_of_parts a b names starts cats funs =
+    ap (λ w. record { name = w; start = a.start; cats = a.cats; funs = a.funs }) names
+    ∙ ap (λ n. record { name = b.name; start = n; cats = a.cats; funs = a.funs }) starts
+    ∙ ap (λ (x : List Cat). record { name = b.name; start = b.start; cats = x; funs = a.funs }) cats
+    ∙ ap (λ (x : List Fun). record { name = b.name; start = b.start; cats = b.cats; funs = x }) funs
+
 same_production : (p q : Prod) → production_fields p ≡ production_fields q → p ≡ q
 same_production p q e =
     let funs : p.fun ≡ q.fun = ap (λ x. x.0) e in
     let args : p.args ≡ q.args = ap (λ x. x.1.0) e in
     let results : p.result ≡ q.result = ap (λ x. x.1.1.0) e in
     let seqs : p.seqs ≡ q.seqs = same_sequences p.seqs q.seqs (ap (λ x. x.1.1.1) e) in
-    ap (λ f. record { fun = f; args = p.args; result = p.result; seqs = p.seqs }) funs
-    ∙ ap (λ (x : List ℕ). record { fun = q.fun; args = x; result = p.result; seqs = p.seqs }) args
-    ∙ ap (λ r. record { fun = q.fun; args = q.args; result = r; seqs = p.seqs }) results
-    ∙ ap (λ (x : List (List Sym)). record { fun = q.fun; args = q.args; result = q.result; seqs = x }) seqs
+    prod_of_parts p q funs args results seqs
 
 same_def : (c d : Def) → def_fields c ≡ def_fields d → c ≡ d
 same_def c d e =
@@ -58,9 +85,8 @@ same_infos next (x ∷ xs) (y ∷ ys) h k e =
     let others : map info_fields xs ≡ map info_fields ys = cc in
     let counts : x.count ≡ y.count = ap (λ i. i.0) first in
     let dims : x.dim ≡ y.dim = ap (λ i. i.1) first in
-    let same : x ≡ y = ap (λ n. record { first = n; count = x.count; dim = x.dim }) (from ∙ sym other_from)
-    ∙ ap (λ n. record { first = y.first; count = n; dim = x.dim }) counts
-    ∙ ap (λ n. record { first = y.first; count = y.count; dim = n }) dims in
+    let firsts : x.first ≡ y.first = from ∙ sym other_from in
+    let same = info_of_parts x y firsts counts dims in
     let there : are_infos (next + x.count) ys ≡ true = ap (λ n. are_infos (next + n) ys) counts ∙ right.1 in
     ap (λ (z : Info). z ∷ xs) same ∙ ap (λ (zs : List Info). y ∷ zs) (same_infos (next + x.count) xs ys left.1 there others)
 
@@ -94,11 +120,7 @@ same_concrete a b c d h k e =
     let prods : c.prods ≡ d.prods = same_map production_fields same_production c.prods d.prods (ap (λ x. x.1.1.0.1) e) in
     let defs : c.defs ≡ d.defs = same_map def_fields same_def c.defs d.defs (ap (λ x. x.1.1.1.0.1) e) in
     let refs : c.refs ≡ d.refs = same_map ref_fields same_ref c.refs d.refs (ap (λ x. x.1.1.1.1.1) e) in
-    ap (λ w. record { name = w; infos = c.infos; prods = c.prods; defs = c.defs; refs = c.refs }) names
-    ∙ ap (λ (x : List Info). record { name = d.name; infos = x; prods = c.prods; defs = c.defs; refs = c.refs }) infos
-    ∙ ap (λ (x : List Prod). record { name = d.name; infos = d.infos; prods = x; defs = c.defs; refs = c.refs }) prods
-    ∙ ap (λ (x : List Def). record { name = d.name; infos = d.infos; prods = d.prods; defs = x; refs = c.refs }) defs
-    ∙ ap (λ (x : List Ref). record { name = d.name; infos = d.infos; prods = d.prods; defs = d.defs; refs = x }) refs
+    concrete_of_parts c d names infos prods defs refs
 
 -- the names among the fields of functions
 names_again : (fs gs : List Fun) → map (λ (f : FunctionFields). f.0.1) (map (function_fields fs) gs) ≡ names_of gs
@@ -135,9 +157,6 @@ one_grammar a b cs ds h k few others_few e =
     (same_function a b like) a.funs b.funs abs.1 other.1 functions in
     let concretes : cs ≡ ds = same_list concrete_fields concrete_fields (is_concrete a) (is_concrete b) (same_concrete a b) cs ds
     left.1 right.1 (ap (λ (x : FileFields). x.1.1.1.1) e) in (
-      ap (λ w. record { name = w; start = a.start; cats = a.cats; funs = a.funs }) name
-          ∙ ap (λ n. record { name = b.name; start = n; cats = a.cats; funs = a.funs }) start
-          ∙ ap (λ (x : List Cat). record { name = b.name; start = b.start; cats = x; funs = a.funs }) cats
-          ∙ ap (λ (x : List Fun). record { name = b.name; start = b.start; cats = b.cats; funs = x }) funs,
+      abstract_of_parts a b name start cats funs,
       concretes,
     )

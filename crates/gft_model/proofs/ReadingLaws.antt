@@ -22,10 +22,10 @@ fields_again a cs h =
 -- the bytes of a grammar are at no fault
 pub no_fault : {bytes : List ℕ} {g : Grammar} {rule : Rule} {at : ℕ} → Reads bytes g → HasFault bytes rule at → ⊥
 no_fault {g} r (of_field e) =
-    let again = fields_again g.abs g.concretes r.grammar.fields in
+    let again = fields_again g.abs g.concretes r.grammar.fields.fits in
     let whole = ap (outcome file 0) r.bytes_are in cc
 no_fault {g} r (after_grammar e) =
-    let again = fields_again g.abs g.concretes r.grammar.fields in
+    let again = fields_again g.abs g.concretes r.grammar.fields.fits in
     let whole = ap (outcome file 0) r.bytes_are in cc
 
 -- bytes have at most one first fault

@@ -111,11 +111,15 @@ file_of g = file_bytes g.abs g.concretes
 abbrev pub IsReduced : Concrete → Type 0
 IsReduced c = All (IsKept c) c.prods
 
--- an abstract syntax and concrete syntaxes that make a grammar: what a file does not write is in range, the fields are
--- as the table of the file asks, each type is well formed, and every production is kept
-pub record IsGrammar (a : Abstract) (cs : List Concrete) : Type 0 where
+-- what a file does not write is in range, and the fields are as the table of the file asks
+pub record HasFields (a : Abstract) (cs : List Concrete) : Type 0 where
   pub in_range : IsTrue (is_in_range a cs)
-  pub fields : Fits file (fields_of a cs)
+  pub fits : Fits file (fields_of a cs)
+
+-- an abstract syntax and concrete syntaxes make a grammar: they have such fields, each type is well formed, and every
+-- production is kept
+pub record IsGrammar (a : Abstract) (cs : List Concrete) : Type 0 where
+  pub fields : HasFields a cs
   pub types : HasTypes a
   pub reduced : All IsReduced cs
 
@@ -193,7 +197,6 @@ pub data IsFlawed (a : Abstract) (cs : List Concrete) : Flaw → ℕ → Type 0 
 pub record IsInvalid (bytes : List ℕ) (flaw : Flaw) (at : ℕ) : Type 0 where
   pub abs : Abstract
   pub concretes : List Concrete
-  pub in_range : IsTrue (is_in_range abs concretes)
-  pub fields : Fits file (fields_of abs concretes)
+  pub fields : HasFields abs concretes
   pub bytes_are : file_bytes abs concretes ≡ bytes
   pub flawed : IsFlawed abs concretes flaw at
