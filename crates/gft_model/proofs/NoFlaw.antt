@@ -15,7 +15,7 @@ use Rattle.gft_model.specs.Typing.{IsCategoryTyped, IsFunctionTyped, AreTypes, n
 use Rattle.gft_model.specs.Flaws.{Flaw, HaveTypesFlaw, here, later}
 use Rattle.gft_model.specs.Runs.{IsKept}
 use Rattle.gft_model.specs.Fields.{Form, Fits, got, outcome}
-use Rattle.gft_model.specs.FileForms.{Text, file, is_less, comes_after, ascending}
+use Rattle.gft_model.specs.FileForms.{FunctionFields, file, is_less, comes_after, ascending}
 use Rattle.gft_model.specs.PortableFile.{listed, function_fields, fields_of, file_bytes, HasFields, IsGrammar, IsReduced, IsFlawed, of_category, of_function, of_production, IsInvalid, Reads}
 use Rattle.gft_model.specs.Laws.{AreNamedApart, HaveOneType}
 use Rattle.gft_model.proofs.FlawLaws.{flaw_has_no_type}
@@ -103,7 +103,7 @@ all_listed P [] all k d b = absurd (omega (arith, b))
 all_listed P (x ∷ []) all k d b = absurd (omega (arith, b))
 all_listed P (x ∷ (y ∷ xs)) all k d b = all (suc (suc k)) d (omega (arith, b))
 
-names_of_fields : (fs gs : List Fun) → map (λ (x : Text × (ℕ × (List (ℕ × (ℕ × List Tree)) × (ℕ × (ℕ × List Tree))))). x.0.1) (map (function_fields fs) gs)
+names_of_fields : (fs gs : List Fun) → map (λ (x : FunctionFields). x.0.1) (map (function_fields fs) gs)
     ≡ map (λ (f : Fun). f.name) gs
 names_of_fields fs [] = refl
 names_of_fields fs (g ∷ gs) = ap (λ ws. g.name ∷ ws) (names_of_fields fs gs)

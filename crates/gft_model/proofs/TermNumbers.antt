@@ -161,9 +161,22 @@ has_by_names (f ∷ fs) (g ∷ gs) w e =
     ap (λ v. bytes_eq v w || has_function fs w) first
     ∙ ap (λ b. bytes_eq g.name w || b) (has_by_names fs gs w others)
 
--- trees of two forms are not equal
-clash : {A : Type 0} {t u : Tree} (a b : ℕ) → t ≡ u → form_of t ≡ a → form_of u ≡ b → ¬ (a ≡ b) → A
-clash a b e i j n = absurd (n (sym i ∙ ap form_of e ∙ j))
+-- numbering keeps the form
+kept_form : (fs : List Fun) (t : Tree) → form_of (numbered fs t) ≡ form_of t
+kept_form fs t = by_form t
+    (λ f ts is. ap (λ x. form_of (numbered fs x)) is ∙ ap form_of (numbered-App fs f ts) ∙ form-App _ _
+    ∙ sym (form-App f ts) ∙ ap form_of (sym is))
+    (λ n is. ap (λ x. form_of (numbered fs x)) is ∙ ap form_of (numbered-Int fs n) ∙ ap form_of (sym is))
+    (λ w is. ap (λ x. form_of (numbered fs x)) is ∙ ap form_of (numbered-Str fs w) ∙ ap form_of (sym is))
+    (λ k is. ap (λ x. form_of (numbered fs x)) is ∙ ap form_of (numbered-Hole fs k) ∙ form-Hole _
+    ∙ sym (form-Hole k) ∙ ap form_of (sym is))
+
+-- so trees of two forms stand for two terms
+clash : {A : Type 0} (fs gs : List Fun) (t u : Tree) {v : Tree} (a b : ℕ) → numbered fs t ≡ numbered gs u → u ≡ v
+    → form_of t ≡ a → form_of v ≡ b → ¬ (a ≡ b) → A
+clash fs gs t u a b e is i j n =
+    let forms : form_of t ≡ form_of u = sym (kept_form fs t) ∙ ap form_of e ∙ kept_form gs u in
+    absurd (n (sym i ∙ forms ∙ ap form_of is ∙ j))
 
 pub alone : (fs gs : List Fun) (n m : ℕ) → AreAlike fs gs → (t : Tree) → IsAlone fs gs n m t
 alone fs gs n m like = induction (IsAlone fs gs n m) app int str hole where
@@ -187,29 +200,29 @@ alone fs gs n m like = induction (IsAlone fs gs n m) app int str hole where
       let heads = same_heads f g left.0 right.0 parts.0 in
       let rest = alone_each fs gs n m ts us each left.1 right.1 parts.1 in
       ap (λ (x : List ℕ). App x ts) heads ∙ ap (App g) rest ∙ sym is)
-      (λ j is. clash 0 2 (sym (numbered-App fs f ts) ∙ e ∙ ap (numbered gs) is ∙ numbered-Int gs j) (form-App _ _) (form-Int j) (λ x. omega (arith, x)))
-      (λ w is. clash 0 3 (sym (numbered-App fs f ts) ∙ e ∙ ap (numbered gs) is ∙ numbered-Str gs w) (form-App _ _) (form-Str w) (λ x. omega (arith, x)))
-      (λ j is. clash 0 1 (sym (numbered-App fs f ts) ∙ e ∙ ap (numbered gs) is ∙ numbered-Hole gs j) (form-App _ _) (form-Hole _) (λ x. omega (arith, x)))
+      (λ j is. clash fs gs (App f ts) u 0 2 e is (form-App _ _) (form-Int j) (λ x. omega (arith, x)))
+      (λ w is. clash fs gs (App f ts) u 0 3 e is (form-App _ _) (form-Str w) (λ x. omega (arith, x)))
+      (λ j is. clash fs gs (App f ts) u 0 1 e is (form-App _ _) (form-Hole _) (λ x. omega (arith, x)))
 
   int : (i : ℕ) → IsAlone fs gs n m (Int i)
   int i u h k e = by_form u
-      (λ g us is. clash 2 0 (sym (numbered-Int fs i) ∙ e ∙ ap (numbered gs) is ∙ numbered-App gs g us) (form-Int i) (form-App _ _) (λ x. omega (arith, x)))
+      (λ g us is. clash fs gs (Int i) u 2 0 e is (form-Int i) (form-App _ _) (λ x. omega (arith, x)))
       (λ j is. ap Int (same_int i j (sym (numbered-Int fs i) ∙ e ∙ ap (numbered gs) is ∙ numbered-Int gs j)) ∙ sym is)
-      (λ w is. clash 2 3 (sym (numbered-Int fs i) ∙ e ∙ ap (numbered gs) is ∙ numbered-Str gs w) (form-Int i) (form-Str w) (λ x. omega (arith, x)))
-      (λ j is. clash 2 1 (sym (numbered-Int fs i) ∙ e ∙ ap (numbered gs) is ∙ numbered-Hole gs j) (form-Int i) (form-Hole _) (λ x. omega (arith, x)))
+      (λ w is. clash fs gs (Int i) u 2 3 e is (form-Int i) (form-Str w) (λ x. omega (arith, x)))
+      (λ j is. clash fs gs (Int i) u 2 1 e is (form-Int i) (form-Hole _) (λ x. omega (arith, x)))
 
   str : (v : List ℕ) → IsAlone fs gs n m (Str v)
   str v u h k e = by_form u
-      (λ g us is. clash 3 0 (sym (numbered-Str fs v) ∙ e ∙ ap (numbered gs) is ∙ numbered-App gs g us) (form-Str v) (form-App _ _) (λ x. omega (arith, x)))
-      (λ j is. clash 3 2 (sym (numbered-Str fs v) ∙ e ∙ ap (numbered gs) is ∙ numbered-Int gs j) (form-Str v) (form-Int j) (λ x. omega (arith, x)))
+      (λ g us is. clash fs gs (Str v) u 3 0 e is (form-Str v) (form-App _ _) (λ x. omega (arith, x)))
+      (λ j is. clash fs gs (Str v) u 3 2 e is (form-Str v) (form-Int j) (λ x. omega (arith, x)))
       (λ w is. ap Str (same_str v w (sym (numbered-Str fs v) ∙ e ∙ ap (numbered gs) is ∙ numbered-Str gs w)) ∙ sym is)
-      (λ j is. clash 3 1 (sym (numbered-Str fs v) ∙ e ∙ ap (numbered gs) is ∙ numbered-Hole gs j) (form-Str v) (form-Hole _) (λ x. omega (arith, x)))
+      (λ j is. clash fs gs (Str v) u 3 1 e is (form-Str v) (form-Hole _) (λ x. omega (arith, x)))
 
   hole : (i : ℕ) → IsAlone fs gs n m (Hole i)
   hole i u h k e = by_form u
-      (λ g us is. clash 1 0 (sym (numbered-Hole fs i) ∙ e ∙ ap (numbered gs) is ∙ numbered-App gs g us) (form-Hole _) (form-App _ _) (λ x. omega (arith, x)))
-      (λ j is. clash 1 2 (sym (numbered-Hole fs i) ∙ e ∙ ap (numbered gs) is ∙ numbered-Int gs j) (form-Hole _) (form-Int j) (λ x. omega (arith, x)))
-      (λ w is. clash 1 3 (sym (numbered-Hole fs i) ∙ e ∙ ap (numbered gs) is ∙ numbered-Str gs w) (form-Hole _) (form-Str w) (λ x. omega (arith, x)))
+      (λ g us is. clash fs gs (Hole i) u 1 0 e is (form-Hole _) (form-App _ _) (λ x. omega (arith, x)))
+      (λ j is. clash fs gs (Hole i) u 1 2 e is (form-Hole _) (form-Int j) (λ x. omega (arith, x)))
+      (λ w is. clash fs gs (Hole i) u 1 3 e is (form-Hole _) (form-Str w) (λ x. omega (arith, x)))
       (λ j is.
       let less = same_number (i - 1) (j - 1) (sym (numbered-Hole fs i) ∙ e ∙ ap (numbered gs) is ∙ numbered-Hole gs j) in
       let first : 1 ≤ i = leb-true 1 i (and_parts _ _ (sym (index-Hole fs n i) ∙ h)).0 in

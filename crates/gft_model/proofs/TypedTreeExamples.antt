@@ -10,8 +10,8 @@ use Rattle.gft_pmcfg.specs.declared.signature.AType.{AType}
 use Rattle.gft_pmcfg.specs.declared.signature.Cat.{Cat}
 use Rattle.gft_model.specs.Trees.{IsInstance, filled}
 use Rattle.gft_model.specs.Skeleton as skeleton
-use Rattle.gft_model.specs.Skeleton.{HasSkeletonType}
-use Rattle.gft_model.specs.Typing.{HoleTypes, HasType, HaveTypes, IsType, IsAdmitted, AreInOrder, hole, integer, text, application, none, more, empty, later, type_at}
+use Rattle.gft_model.specs.Skeleton.{HoleCategories, HasSkeletonType}
+use Rattle.gft_model.specs.Typing.{HoleTypes, HasType, HaveTypes, IsType, IsAdmitted, AreInOrder, hole, integer, text, application, none, more, empty, later, type_at, int_type}
 use Rattle.gft_model.specs.Flaws as flaws
 use Rattle.gft_model.specs.Flaws.{Flaw, arity, index_type, HasFlaw, HaveFlaw, HasTypeFlaw}
 use Rattle.gft_model.proofs.Home.{home, same, fan, mk, cmd, kind}
@@ -34,11 +34,22 @@ fan_typed : {T : HoleTypes} → HasType home T a_fan kind
 fan_typed = application {f = fan} (2, omega arith, refl) (outs-App _ _) none
 
 closed_typed : HasType home [] (same_of a_fan a_fan) cmd
-closed_typed = application {f = same} (0, omega arith, refl) (outs-App _ _) (more fan_typed (more (application {f = mk} (3, omega arith, refl) (outs-App _ _) (more fan_typed none)) none))
+closed_typed =
+    let marked = application {f = mk} (3, omega arith, refl) (outs-App _ _) (more fan_typed none) in
+    application {f = same} (0, omega arith, refl) (outs-App _ _) (more fan_typed (more marked none))
 
 -- `Same ?1 (mk ?2)` has a skeleton type, and no type whatever its holes are
-skeleton_typed : HasSkeletonType home ((1, 3) ∷ (2, 3) ∷ []) (same_of (Hole 1) (Hole 2)) 2
-skeleton_typed = skeleton.HasSkeletonType.application {f = same} (0, omega arith, refl) (outs-App _ _) (skeleton.more (skeleton.hole (outs-Hole 1) (omega arith) (0, omega arith, refl)) (skeleton.more (skeleton.HasSkeletonType.application {f = mk} (3, omega arith, refl) (outs-App _ _) (skeleton.more (skeleton.hole (outs-Hole 2) (omega arith) (1, omega arith, refl)) skeleton.none)) skeleton.none))
+abbrev two_kinds : HoleCategories
+two_kinds = (1, 3) ∷ (2, 3) ∷ []
+
+marked : HasSkeletonType home two_kinds (App (codes "mk") (Hole 2 ∷ [])) 4
+marked = skeleton.HasSkeletonType.application {f = mk} (3, omega arith, refl) (outs-App _ _)
+    (skeleton.more (skeleton.hole (outs-Hole 2) (omega arith) (1, omega arith, refl)) skeleton.none)
+
+skeleton_typed : HasSkeletonType home two_kinds (same_of (Hole 1) (Hole 2)) 2
+skeleton_typed = skeleton.HasSkeletonType.application {f = same} (0, omega arith, refl) (outs-App _ _)
+    (skeleton.more (skeleton.hole (outs-Hole 1) (omega arith) (0, omega arith, refl))
+    (skeleton.more marked skeleton.none))
 
 two_kinds_are_not_typed : (T : HoleTypes) (type : AType) → ¬ HasType home T (same_of (Hole 1) (Hole 2)) type
 two_kinds_are_not_typed T type d =
@@ -109,7 +120,10 @@ other_index : HasTypeFlaw home [] (tag_of (Int 7)) index_type
 other_index = record { category = tag_category; numbered = refl; indices = seven_is_no_kind }
 
 first_counts : HasFlaw home [] (App (codes "mk") (Int 7 ∷ Int 7 ∷ [])) index_type
-first_counts = flaws.application {f = mk} (3, omega arith, refl) (outs-App _ _) (flaws.other_type (integer (outs-Int 7) (omega arith)) (λ e. absurd (omega (arith, ap (λ (t : AType). t.cat) e))))
+first_counts =
+    let other : ¬ (int_type ≡ kind) = λ e. absurd (omega (arith, ap (λ (t : AType). t.cat) e)) in
+    flaws.application {f = mk} (3, omega arith, refl) (outs-App _ _)
+    (flaws.other_type (integer (outs-Int 7) (omega arith)) other)
 
 -- `?1` is a kind, and nothing else
 only_kind : {found : AType} → HasType home kinds (Hole 1) found → found ≡ kind
