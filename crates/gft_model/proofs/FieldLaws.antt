@@ -8,7 +8,7 @@ use Rattle.std.proofs.Math.Seq.{take-append_seam, drop-append_seam}
 use Rattle.gft_model.specs.Fields.{Form, number, bytes, both, end, item, tagged, made, such, big_endian, number_after, written, Fits, got, block, outcome}
 
 -- one more byte
-after-append : (k : ℕ) (bs : List ℕ) (b : ℕ) → number_after k (bs ++ b ∷ []) ≡ number_after k bs * 256 + b
+pub after-append : (k : ℕ) (bs : List ℕ) (b : ℕ) → number_after k (bs ++ b ∷ []) ≡ number_after k bs * 256 + b
 after-append k [] b = refl
 after-append k (c ∷ bs) b = after-append (k * 256 + c) bs b
 

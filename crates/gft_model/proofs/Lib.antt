@@ -36,8 +36,10 @@ pub mod CutExamples
 pub mod ForestExamples
 pub mod ListingExamples
 pub mod FieldLaws
+pub mod ReadBack
 pub mod ReadingExamples
 pub mod FlawLaws
+pub mod SoundFile
 pub mod ReadingLaws
 pub mod TermNumbers
 pub mod OneGrammar

@@ -5,7 +5,6 @@ use Rattle.std.specs.Ordering.{nat_cmp}
 use Rattle.std.specs.declared.cmp.Ordering.{Ordering}
 use Rattle.std.specs.declared.cmp.Ordering.TheVariants.{Less, Equal, Greater}
 use Rattle.std.proofs.Common.{refl, sym, ap, ◌∙◌, subst, arith}
-use Rattle.gft_core.specs.declared.tree.Tree.{Tree}
 use Rattle.gft_pmcfg.specs.declared.signature.AType.{AType}
 use Rattle.gft_pmcfg.specs.declared.signature.Fun.{Fun}
 use Rattle.gft_pmcfg.specs.declared.signature.Abstract.{Abstract}

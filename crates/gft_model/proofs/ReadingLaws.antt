@@ -1,15 +1,19 @@
 -- Files that are read, and their faults.
-use Rattle.std.specs.Prelude.{◌≡◌, ℕ, List, [], ◌+◌, length}
-use Rattle.std.proofs.Common.{sym, ap, ◌∙◌, arith}
+use Rattle.std.specs.Prelude.{◌∷◌, ◌≡◌, ℕ, List, [], ◌+◌, length}
+use Rattle.std.proofs.Common.{inl, inr, refl, sym, ap, ◌∙◌, arith}
 use Rattle.std.proofs.lemmas.List.{append-nil}
 use Rattle.gft_rules.specs.declared.rule.Rule.{Rule}
+use Rattle.gft_rules.specs.declared.rule.Rule.TheVariants.{TooLong}
 use Rattle.gft_pmcfg.specs.declared.signature.Abstract.{Abstract}
 use Rattle.gft_pmcfg.specs.declared.concrete.Concrete.{Concrete}
 use Rattle.gft_pmcfg.specs.declared.grammar.Grammar.{Grammar}
-use Rattle.gft_model.specs.Fields.{Fits, got, outcome}
-use Rattle.gft_model.specs.FileForms.{file}
+use Rattle.gft_model.specs.Fields.{Fits, Outcome, got, fault, outcome, written}
+use Rattle.gft_model.specs.FileForms.{FileFields, file}
 use Rattle.gft_model.specs.PortableFile.{fields_of, file_bytes, Reads, HasFault, of_field, after_grammar}
+use Rattle.gft_model.specs.Laws.{AreBytes, FaultOrFields}
 use Rattle.gft_model.proofs.FieldLaws.{read_again}
+use Rattle.gft_model.proofs.ReadBack.{read_back}
+use Rattle.gft_model.proofs.SoundFile.{sound_file}
 
 -- the fields of a file are read again, and nothing is left
 pub fields_again : (a : Abstract) (cs : List Concrete) → Fits file (fields_of a cs)
@@ -35,3 +39,13 @@ one_fault (of_field d) (of_field e) = (cc, cc)
 one_fault (of_field d) (after_grammar e) = (cc, cc)
 one_fault (after_grammar d) (of_field e) = (cc, cc)
 one_fault (after_grammar d) (after_grammar e) = (cc, cc)
+
+-- bytes are at a fault, or are those of fields that fit
+pub fault_or_fields : (bytes : List ℕ) → AreBytes bytes → FaultOrFields bytes
+fault_or_fields bytes h = here (outcome file 0 bytes) refl where
+  here : (o : Outcome FileFields) → outcome file 0 bytes ≡ o → FaultOrFields bytes
+  here (fault rule at) e = inl (rule, at, of_field e)
+  here (got x at (b ∷ rest)) e = inl (TooLong, at, after_grammar e)
+  here (got x at []) e =
+      let back = read_back file sound_file 0 bytes h x at [] e in
+      inr (x, back.fits, sym (back.are ∙ append-nil (written file x)))

@@ -1,5 +1,5 @@
 -- Laws of the definitions.
-use Rattle.std.specs.Prelude.{◌≡◌, ℕ, List, [], length, map, Contains, Some, slice_get}
+use Rattle.std.specs.Prelude.{◌≡◌, ℕ, List, [], length, map, Contains, Some, slice_get, ◌<◌, ◌∷◌, ⊤, ◌⊎◌}
 use Rattle.gft_core.specs.declared.symbol.Sym.{Sym}
 use Rattle.gft_core.specs.declared.tree.Tree.{Tree}
 use Rattle.gft_pmcfg.specs.declared.signature.AType.{AType}
@@ -13,8 +13,8 @@ use Rattle.gft_rules.specs.declared.rule.Rule.{Rule}
 use Rattle.gft_model.specs.Trees.{IsClosed, IsInstance}
 use Rattle.gft_model.specs.Typing.{HoleTypes, HasType, IsType}
 use Rattle.gft_model.specs.Flaws.{Flaw, HasTypeFlaw}
-use Rattle.gft_model.specs.Fields.{Fits, outcome, got}
-use Rattle.gft_model.specs.FileForms.{file}
+use Rattle.gft_model.specs.Fields.{Fits, outcome, got, written}
+use Rattle.gft_model.specs.FileForms.{FileFields, file}
 use Rattle.gft_model.specs.PortableFile.{fields_of, file_bytes, Reads, HasFault, IsInvalid}
 use Rattle.gft_model.specs.Skeleton.{HoleCategories, HasSkeletonType}
 use Rattle.gft_model.specs.Brackets.{Piece, erased}
@@ -34,10 +34,10 @@ abbrev pub ErasedIsString : Type 0
 ErasedIsString = (a : Abstract) (c : Concrete) (cat : ℕ) (t : Tree) (b : List Piece)
     → IsBracketedString a c cat t b → IsStringOf a c cat t (erased b)
 
--- the words that a run yields under a ref are determined
+-- a run is for words as one to one nonterminal, and under one ref for one text
 abbrev pub YieldIsDetermined : Type 0
-YieldIsDetermined = (c : Concrete) (seq : List Sym) (r : Run) (v w : List (List ℕ))
-    → yield_of c seq r ≡ v → yield_of c seq r ≡ w → v ≡ w
+YieldIsDetermined = (c : Concrete) (cat : ℕ) (r : Run) (v w : List (List ℕ)) → (x : IsRunFor c cat v r)
+    → (y : IsRunFor c cat w r) → (x.nonterminal ≡ y.nonterminal) × (x.seq ≡ y.seq → v ≡ w)
 
 -- a run is one to at most one nonterminal
 abbrev pub NonterminalIsDetermined : Type 0
@@ -139,3 +139,18 @@ FileIsOfOneGrammar = (bytes : List ℕ) (g h : Grammar) → Reads bytes g → Re
 -- and not those of one with a flaw
 abbrev pub GrammarIsNotInvalid : Type 0
 GrammarIsNotInvalid = (bytes : List ℕ) (g : Grammar) (flaw : Flaw) (at : ℕ) → Reads bytes g → ¬ IsInvalid bytes flaw at
+
+-- numbers that are bytes
+abbrev pub AreBytes : List ℕ → Type 0
+AreBytes [] = ⊤
+AreBytes (b ∷ bs) = (b < 256) × AreBytes bs
+
+-- a fault of the bytes, or fields that fit the table and are written so
+abbrev pub FaultOrFields : List ℕ → Type 0
+FaultOrFields bytes =
+    ((rule : Rule) × (at : ℕ) × HasFault bytes rule at)
+    ⊎ ((x : FileFields) × Fits file x × (written file x ≡ bytes))
+
+-- bytes that are at no fault are those of fields that fit the table
+abbrev pub BytesHaveFaultOrFields : Type 0
+BytesHaveFaultOrFields = (bytes : List ℕ) → AreBytes bytes → FaultOrFields bytes

@@ -1,5 +1,5 @@
 //! Laws of the definitions. Each function does nothing; its clause is the law.
-ghost use Rattle.gft_model.specs.Laws.{CutCoversTree, ListedCoversTree, SolutionIsUnique, ErasedIsString, YieldIsDetermined, NonterminalIsDetermined, ValueIsOfRun, RunGivesValue, StringIsOfRun, RunGivesString, TypeIsDetermined, TypedHasSkeletonType, FlawedIsNoType, FieldsAreReadAgain, GrammarHasNoFault, FaultIsDetermined, FileIsOfOneGrammar, GrammarIsNotInvalid};
+ghost use Rattle.gft_model.specs.Laws.{CutCoversTree, ListedCoversTree, SolutionIsUnique, ErasedIsString, YieldIsDetermined, NonterminalIsDetermined, ValueIsOfRun, RunGivesValue, StringIsOfRun, RunGivesString, TypeIsDetermined, TypedHasSkeletonType, FlawedIsNoType, FieldsAreReadAgain, GrammarHasNoFault, FaultIsDetermined, FileIsOfOneGrammar, GrammarIsNotInvalid, BytesHaveFaultOrFields};
 
 /// The solution of a pattern is unique: it fixes the numbers of its holes too.
 pub fn solution_is_unique()
@@ -11,7 +11,7 @@ pub fn erased_is_string()
     ensures { ErasedIsString }
 {}
 
-/// The words that a run yields under a ref are determined.
+/// A run is for words as one to one nonterminal, and under one ref for one text.
 pub fn yield_is_determined()
     ensures { YieldIsDetermined }
 {}
@@ -92,4 +92,9 @@ pub fn file_is_of_one_grammar()
 /// The bytes of a grammar are not those of one with a flaw.
 pub fn grammar_is_not_invalid()
     ensures { GrammarIsNotInvalid }
+{}
+
+/// Bytes have a first fault, or are those of fields that fit the table of the portable file.
+pub fn bytes_have_fault_or_fields()
+    ensures { BytesHaveFaultOrFields }
 {}
