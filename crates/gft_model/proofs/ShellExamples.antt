@@ -1,6 +1,6 @@
 -- Worked examples of answers to lines.
-use Rattle.std.proofs.Common.{◌≡◌, ◌≢◌, refl, ap, List, [], ◌∷◌, ◌++◌, true, false, arith}
-use Rattle.std.specs.Prelude.{codes, Some, None, length}
+use Rattle.std.proofs.Common.{◌≡◌, ◌≢◌, refl, ap, ℕ, List, [], ◌∷◌, ◌++◌, true, false, arith}
+use Rattle.std.specs.Prelude.{codes, Some, None, length, map}
 use Rattle.std.specs.FinMap.{insert}
 use Rattle.std.specs.Fmt.{digits}
 use Rattle.std.specs.Str.{chars}
@@ -12,9 +12,9 @@ use Rattle.gft_rules.specs.declared.rule.Rule.TheVariants.{NoGrammar}
 use Rattle.gft_model.specs.Commands as commands
 use Rattle.gft_model.specs.Commands.{Verb, Import, Empty, Quit, Parse, WritePortable, Argument, Nothing, Words, Read, Pipe, command, refusal, keys_of}
 use Rattle.gft_model.specs.PortableFile.{file_of}
-use Rattle.gft_model.specs.Shell.{Held, Answer, refusing, replying, no_grammar, no_language, no_such_language, no_such_category, LacksFirst, here, later, IsAlone, Does, empties, quits, writes, PipeSteps, done, lacking, AllSteps, none, last, more, read, IsAnswer}
+use Rattle.gft_model.specs.Shell.{Held, grammar_line, Answer, refusing, replying, no_grammar, no_language, no_such_language, no_such_category, LacksFirst, here, later, IsAlone, Does, empties, quits, writes, PipeSteps, done, lacking, AllSteps, none, last, more, read, IsAnswer}
 use Rattle.gft_model.specs.Shell as shell
-use Rattle.gft_model.specs.States.{Sources, State, StandsFor, loaded, of_file, file}
+use Rattle.gft_model.specs.States.{Sources, State, Kept, added, StandsFor, loaded, of_file, file}
 use Rattle.gft_model.proofs.CommandExamples as lines
 use Rattle.gft_model.proofs.CommandExamples.{empty}
 use Rattle.gft_model.proofs.Tiny.{abs, eng}
@@ -65,6 +65,18 @@ tiny = record { abs = abs; concretes = eng ∷ []; in_range = refl }
 
 abbrev tiny_state : State
 tiny_state = Some (record { abs = abs; languages = (codes "TE", of_file eng) ∷ [] })
+
+-- the line of its import, and of one without languages
+imported : grammar_line (record { abs = abs; languages = (codes "TE", of_file eng) ∷ [] }) ≡ codes "grammar T languages TE"
+imported = refl
+
+without_languages : grammar_line (record { abs = abs; languages = [] }) ≡ codes "grammar T languages"
+without_languages = refl
+
+-- a later language stands in place of one of its name, and languages are in order
+replaced : map (λ (l : List ℕ × Kept). l.0) (added [] ((codes "B", of_file eng) ∷ (codes "A", of_file eng)
+    ∷ (codes "B", of_file eng) ∷ [])) ≡ codes "A" ∷ codes "B" ∷ []
+replaced = refl
 
 -- its file is written
 tiny_written : (S : Sources) (files : Files) → Does S (record { state = tiny_state; files = files })
