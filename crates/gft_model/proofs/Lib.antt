@@ -56,3 +56,4 @@ pub mod LinearizeExamples
 pub mod OutputExamples
 pub mod ReplyExamples
 pub mod CommandLaws
+pub mod ReplyLaws

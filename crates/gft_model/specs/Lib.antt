@@ -47,4 +47,4 @@ pub mod AbstractInfo
 pub mod Replies
 pub mod Shell
 pub mod Output
-pub mod LineLaws
+pub mod AnswerLaws

@@ -82,11 +82,16 @@ pub record AreNext (a : Abstract) (L : Language) (cat : ℕ) (words tokens : Lis
   pub integers : IsTrue integer ↔ IsNext a L cat words any_integer
   pub texts : IsTrue text ↔ IsNext a L cat words any_string
 
--- each word in quotes, then the classes of literals, or the notice of the first word that does not fit
+-- each word in quotes, then the classes of literals
+abbrev pub next_items : List (List ℕ) → Bool → Bool → List Item
+next_items tokens integer text =
+    map (λ w. a_line (quoted w)) tokens ++ (if integer then a_line (codes "<Int>") ∷ [] else [])
+    ++ (if text then a_line (codes "<String>") ∷ [] else [])
+
+-- what may come next, or the notice of the first word that does not fit
 pub data Completes (a : Abstract) (L : Language) (cat : ℕ) (words : List (List ℕ)) : List Item → Type 0 where
   next : (tokens : List (List ℕ)) (integer text : Bool) → Begins a L cat words → AreNext a L cat words tokens integer text
-      → Completes a L cat words (map (λ w. a_line (quoted w)) tokens
-      ++ (if integer then a_line (codes "<Int>") ∷ [] else []) ++ (if text then a_line (codes "<String>") ∷ [] else []))
+      → Completes a L cat words (next_items tokens integer text)
   failed : (number : ℕ) (word : List ℕ) → FailsAt a L cat words number word
       → Completes a L cat words (a_line (failed_line number word) ∷ [])
 

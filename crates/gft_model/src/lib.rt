@@ -1,10 +1,13 @@
 //! The definitions of the language as a reader checks them, and their laws.
 #![tactic(auto)]
 
+mod answers;
 mod laws;
-mod lines;
 mod sources;
 
+pub use answers::{
+    complete_answers_once, line_is_read_once, parse_answers_once, texts_are_determined,
+};
 pub use laws::{
     bytes_have_fault_or_fields, cut_covers_tree, erased_is_string, fault_is_determined,
     fields_are_read_again, file_is_of_one_grammar, flawed_is_no_type, grammar_has_no_fault,
@@ -12,7 +15,6 @@ pub use laws::{
     run_gives_value, solution_is_unique, string_is_of_run, type_is_determined,
     typed_has_skeleton_type, value_is_of_run, yield_is_determined,
 };
-pub use lines::line_is_read_once;
 pub use sources::{
     alternatives_in_order, cases_are_in_order, found_type_is_determined, judgement_is_determined,
     meaning_is_determined, no_variants, pattern_fits_once, tokens_are_determined,

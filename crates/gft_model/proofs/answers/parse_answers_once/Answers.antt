@@ -1,0 +1,6 @@
+use Rattle.gft_model.proofs.ReplyLaws.{parses_once}
+use Rattle.gft_model.proofs.answers.parse_answers_once.Goals as goal
+use Rattle.gft_model.specs.States.{language_of}
+
+pub returns : goal.returns
+returns c = λ a l cat. parses_once a (language_of a cat l) cat

@@ -1,0 +1,22 @@
+//! Laws of command lines and answers. Each function does nothing; its clause is the law.
+ghost use Rattle.gft_model.specs.AnswerLaws.{LineIsReadOnce, ParseAnswersOnce, CompleteAnswersOnce, TextsAreDetermined};
+
+/// A line is read in at most one way: as the same pipes and the same refusals.
+pub fn line_is_read_once()
+    ensures { LineIsReadOnce }
+{}
+
+/// `parse` has at most one answer: the same patterns, or the same notice.
+pub fn parse_answers_once()
+    ensures { ParseAnswersOnce }
+{}
+
+/// `complete` has at most one answer.
+pub fn complete_answers_once()
+    ensures { CompleteAnswersOnce }
+{}
+
+/// The texts of a tree in a language, in their order, are determined.
+pub fn texts_are_determined()
+    ensures { TextsAreDetermined }
+{}
