@@ -1,11 +1,12 @@
 -- Worked examples of what `parse` and `complete` answer: in Dead `yes` is the one sentence.
 use Rattle.std.proofs.Common.{◌≡◌, ◌≢◌, refl, sym, ap, ◌∙◌, subst, ℕ, zero, suc, List, [], ◌∷◌, ◌++◌, true, false, arith, rules, inl, inr, ⊎_elim}
-use Rattle.std.specs.Prelude.{codes, bytes_eq, slice_index_or, Contains, AllPairs, Bool, None, length}
+use Rattle.std.specs.Prelude.{codes, bytes_eq, slice_index_or, Contains, AllPairs, Bool, Option, Some, None, length, slice_get}
 use Rattle.gft_core.specs.declared.tree.Tree.{Tree, App, Hole, out-Tree, roll-Tree, roll-out-Tree}
 use Rattle.gft_core.specs.declared.tree.Tree.TheOpen as layer
 use Rattle.gft_core.specs.declared.tree.Tree.TheOpen.{Tree-F}
 use Rattle.gft_core.specs.declared.tree.Tree.TheVariants.{outs-App, rolls-App}
 use Rattle.std.specs.Fmt.{digits}
+use Rattle.gft_pmcfg.specs.declared.signature.AType.{AType}
 use Rattle.gft_pmcfg.specs.declared.signature.Fun.{Fun}
 use Rattle.gft_rules.specs.declared.refusal.Refusal.{Refusal}
 use Rattle.gft_rules.specs.declared.rule.Rule.TheVariants.{UnknownFun}
@@ -21,10 +22,11 @@ use Rattle.gft_model.specs.Sentences.{IsSentence, IsNext, Next, a_word, next_of}
 use Rattle.gft_model.specs.Solutions.{IsSolution}
 use Rattle.gft_model.specs.Trees as trees
 use Rattle.gft_model.specs.Typing as typing
-use Rattle.gft_model.specs.Unsolved.{IsUnsolved, ComesFirst, AppliesAt, MustHave, argument, IsWrongAt, unknown_fun, wrong_arity, wrong_category, wrong, ill_typed}
+use Rattle.gft_model.specs.Unsolved.{IsUnsolved, IsSolvable, ComesFirst, AppliesAt, MustHave, argument, IsWrongAt, unknown_fun, wrong_arity, wrong_category, function_named, wrong}
 use Rattle.gft_model.proofs.Grammars.{dead, whole}
 use Rattle.gft_model.proofs.SentenceExamples.{language, h, h_gives, h_string, yes_is_next, only_h, only_yes, no_words, first_of}
 use Rattle.gft_model.proofs.SkeletonLaws.{skeleton}
+use Rattle.gft_model.proofs.TypingLemmas.{applies}
 use Rattle.gft_model.proofs.TreeLemmas.{filled-App, holes_of-App}
 
 -- the bracketed string of `h`
@@ -125,27 +127,40 @@ parses = replies.listed {ts = []} (record {
   in_order = one_in_order IsBefore h;
 })
 
+-- the root comes first
+root_first : (q : List ℕ) (other : ℕ) → ComesFirst [] 0 q other
+root_first [] other = inr (refl, omega arith)
+root_first (i ∷ q) other = inl refl
+
 -- a function of another name
 other_name : (w : List ℕ) (g f : Fun) → bytes_eq g.name w ≡ false → bytes_eq w w ≡ true → g ≡ f → f.name ≢ w
 other_name w g f differs same e n = let is : false ≡ true =
     sym differs ∙ ap (λ (k : Fun). bytes_eq k.name w) e ∙ ap (λ m. bytes_eq m w) n ∙ same in cc
 
--- no function is called `nope`
+-- `nope` has no solution, since no function has the name
 not_there : (f : Fun) → Contains dead.funs f → f.name ≢ codes "nope"
 not_there f (zero, b, e) = other_name (codes "nope") _ f refl refl e
 not_there f (suc zero, b, e) = other_name (codes "nope") _ f refl refl e
 not_there f (suc (suc zero), b, e) = other_name (codes "nope") _ f refl refl e
 not_there f (suc (suc (suc k)), b, e) = absurd (omega (arith, b))
 
--- the root comes first
-root_first : (q : List ℕ) (other : ℕ) → ComesFirst [] 0 q other
-root_first [] other = inr (refl, omega arith)
-root_first (i ∷ q) other = inl refl
+no_type : (T : typing.HoleTypes) (type : AType) → ¬ typing.HasType dead T (App (codes "nope") []) type
+no_type T type d =
+    let whole = applies (codes "nope") [] (outs-App _ _) d in not_there whole.function whole.listed whole.name
+
+unsolvable : ¬ IsSolvable dead (App (codes "nope") [])
+unsolvable s =
+    let same : s.0 ≡ App (codes "nope") [] = s.1.instance.1 ∙ filled-App s.1.instance.0 (codes "nope") [] in
+    let typed = s.1.typed in
+    no_type typed.0 typed.2 (subst (λ (t : Tree). typing.HasType dead typed.0 t typed.2) same typed.3)
 
 -- `l nope` is refused
 unknown : IsUnsolved dead (App (codes "nope") []) (refusal UnknownFun (codes "nope" ∷ []))
-unknown = wrong {p = []} {kind = 0} (unknown_fun (record { subtree = _; stands = refl; applies = outs-App _ _ }) not_there)
-    (λ q other s w. root_first q other)
+unknown = record {
+  unsolvable = unsolvable;
+  reason = wrong {p = []} {kind = 0} (unknown_fun (record { subtree = _; stands = refl; applies = outs-App _ _ }) refl)
+      (λ q other s w. root_first q other);
+}
 
 -- a sentence with a tree is not answered by a notice
 no_notice : ¬ Parses dead language 3 (codes "yes" ∷ []) 12 (a_line (codes "no tree") ∷ [])
@@ -163,25 +178,22 @@ only_root {p = []} {name} {ts} s =
     sym s.applies ∙ ap out-Tree (sym is) ∙ outs-App (codes "h") [] in (cc, cc)
 only_root {p = i ∷ q} s = let none = no_part i q in let some = s.stands in cc
 
--- and the function has no argument
-only_fun : {f : Fun} → Contains dead.funs f → f.name ≡ codes "h" → f.args ≡ []
-only_fun {f} (zero, b, e) n = absurd (other_name (codes "h") _ f refl refl e n)
-only_fun {f} (suc zero, b, e) n = absurd (other_name (codes "h") _ f refl refl e n)
-only_fun (suc (suc zero), b, e) n = ap (λ (f : Fun). f.args) (sym e)
-only_fun (suc (suc (suc k)), b, e) n = absurd (omega (arith, b))
+abbrev arguments_of : Option Fun → List AType
+arguments_of None = []
+arguments_of (Some f) = f.args
+
+no_arguments : {p name : List ℕ} {f : Fun} {ts : List Tree} → AppliesAt h p name ts → function_named dead.funs name ≡ Some f
+    → f.args ≡ []
+no_arguments s named = sym (ap arguments_of named) ∙ ap (λ n. arguments_of (function_named dead.funs n)) (only_root s).0
 
 no_demand : {p : List ℕ} {cat : ℕ} → ¬ MustHave dead h p cat
-no_demand (argument i m s e) = let args = only_fun m (only_root s).0 in cc
+no_demand (argument q i e s named there) = let none = sym (ap (λ ts. slice_get ts i) (no_arguments s named)) ∙ there in cc
 
 not_wrong : {p : List ℕ} {kind : ℕ} {r : Refusal} → ¬ IsWrongAt dead h p kind r
-not_wrong (unknown_fun s n) = n _ (2, omega arith, refl) (sym (only_root s).0)
-not_wrong (wrong_arity m s n) =
-    let parts = only_root s in n (ap length parts.1 ∙ sym (ap length (only_fun m parts.0)))
+not_wrong (unknown_fun s named) = let is = ap (function_named dead.funs) (sym (only_root s).0) ∙ named in cc
+not_wrong (wrong_arity s named n) = n (ap length (only_root s).1 ∙ sym (ap length (no_arguments s named)))
 not_wrong (wrong_category m c n) = no_demand m
 
 -- so `h` is solved, and not refused
 not_unsolved : {r : Refusal} → ¬ IsUnsolved dead h r
-not_unsolved (wrong w first) = not_wrong w
-not_unsolved (ill_typed {p = []} {u} all s n before) =
-    let is : h ≡ u = cc in n (h, subst (λ (t : Tree). IsSolution dead t h) is solved)
-not_unsolved (ill_typed {p = i ∷ q} all s n before) = let none = no_part i q in cc
+not_unsolved u = u.unsolvable (h, solved)

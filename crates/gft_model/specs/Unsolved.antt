@@ -1,5 +1,5 @@
 -- Why a tree of a command has no solution: the first rule that it breaks.
-use Rattle.std.specs.Prelude.{◌≡◌, ◌≢◌, ◌⊎◌, ◌<◌, ◌≤◌, ℕ, suc, List, [], ◌∷◌, ◌++◌, length, Contains, Some, slice_get}
+use Rattle.std.specs.Prelude.{◌≡◌, ◌≢◌, ◌⊎◌, ◌<◌, ◌≤◌, ℕ, suc, List, [], ◌∷◌, ◌++◌, length, bytes_eq, if◌then◌else◌, Option, Some, None, slice_get}
 use Rattle.std.specs.Cmp.Lexicographic.{slice_cmp}
 use Rattle.std.specs.Ordering.{nat_cmp}
 use Rattle.std.specs.declared.cmp.Ordering.TheVariants.{Less}
@@ -32,14 +32,21 @@ pub record HoleAt (t : Tree) (p : List ℕ) (k : ℕ) : Type 0 where
   pub stands : subtree_at t p ≡ Some subtree
   pub hole : IsHole subtree k
 
+-- the function of a name
+abbrev pub function_named : List Fun → List ℕ → Option Fun
+function_named [] name = None
+function_named (f ∷ fs) name = if bytes_eq f.name name then Some f else function_named fs name
+
 -- the category that an argument must have, by its function
-pub data MustHave (a : Abstract) (t : Tree) : List ℕ → ℕ → Type 0 where
-  argument : {p : List ℕ} {f : Fun} {ts : List Tree} (i : ℕ) {type : AType} → Contains a.funs f → AppliesAt t p f.name ts
-      → slice_get f.args i ≡ Some type → MustHave a t (p ++ suc i ∷ []) type.cat
+pub data MustHave (a : Abstract) (t : Tree) (p : List ℕ) : ℕ → Type 0 where
+  argument : (q : List ℕ) (i : ℕ) {name : List ℕ} {f : Fun} {ts : List Tree} {type : AType} → p ≡ q ++ suc i ∷ []
+      → AppliesAt t q name ts → function_named a.funs name ≡ Some f → slice_get f.args i ≡ Some type
+      → MustHave a t p type.cat
 
 -- the category that the subtree at a position has; a hole has the one that it must have where it first occurs
 pub data HasCategory (a : Abstract) (t : Tree) (p : List ℕ) : ℕ → Type 0 where
-  application : {f : Fun} {ts : List Tree} → Contains a.funs f → AppliesAt t p f.name ts → HasCategory a t p f.result.cat
+  application : {name : List ℕ} {f : Fun} {ts : List Tree} → AppliesAt t p name ts → function_named a.funs name ≡ Some f
+      → HasCategory a t p f.result.cat
   integer : {s : Tree} {n : ℕ} → subtree_at t p ≡ Some s → IsInteger s n → HasCategory a t p 0
   text : {s : Tree} {w : List ℕ} → subtree_at t p ≡ Some s → IsString s w → HasCategory a t p 1
   hole : {q : List ℕ} {k cat : ℕ} → HoleAt t p k → HoleAt t q k → ((r : List ℕ) → HoleAt t r k → IsNotAfter q r)
@@ -48,10 +55,10 @@ pub data HasCategory (a : Abstract) (t : Tree) (p : List ℕ) : ℕ → Type 0 w
 -- what is wrong at a position, in the order of kinds: a function that is not there, one with another number of
 -- arguments, an argument of another category
 pub data IsWrongAt (a : Abstract) (t : Tree) (p : List ℕ) : ℕ → Refusal → Type 0 where
-  unknown_fun : {name : List ℕ} {ts : List Tree} → AppliesAt t p name ts → ((f : Fun) → Contains a.funs f → f.name ≢ name)
+  unknown_fun : {name : List ℕ} {ts : List Tree} → AppliesAt t p name ts → function_named a.funs name ≡ None
       → IsWrongAt a t p 0 (refusal UnknownFun (name ∷ []))
-  wrong_arity : {f : Fun} {ts : List Tree} → Contains a.funs f → AppliesAt t p f.name ts → length ts ≢ length f.args
-      → IsWrongAt a t p 1 (refusal WrongArity (f.name ∷ []))
+  wrong_arity : {name : List ℕ} {f : Fun} {ts : List Tree} → AppliesAt t p name ts → function_named a.funs name ≡ Some f
+      → length ts ≢ length f.args → IsWrongAt a t p 1 (refusal WrongArity (name ∷ []))
   wrong_category : {wanted found : ℕ} → MustHave a t p wanted → HasCategory a t p found → wanted ≢ found
       → IsWrongAt a t p 2 (refusal WrongCategory (category_name a wanted ∷ category_name a found ∷ []))
 
@@ -67,11 +74,16 @@ pub data IsBefore : List ℕ → List ℕ → Type 0 where
 abbrev pub IsSolvable : Abstract → Tree → Type 0
 IsSolvable a t = (solution : Tree) × IsSolution a t solution
 
--- the first refusal of a tree: what is wrong first, else its first subtree that has no solution by itself
-pub data IsUnsolved (a : Abstract) (t : Tree) : Refusal → Type 0 where
+-- why a tree has no solution: what is wrong first, else its first subtree that has none by itself
+pub data IsReason (a : Abstract) (t : Tree) : Refusal → Type 0 where
   wrong : {p : List ℕ} {kind : ℕ} {r : Refusal} → IsWrongAt a t p kind r
-      → ((q : List ℕ) (other : ℕ) (s : Refusal) → IsWrongAt a t q other s → ComesFirst p kind q other) → IsUnsolved a t r
+      → ((q : List ℕ) (other : ℕ) (s : Refusal) → IsWrongAt a t q other s → ComesFirst p kind q other) → IsReason a t r
   ill_typed : {p : List ℕ} {u : Tree} → ((q : List ℕ) (kind : ℕ) (s : Refusal) → ¬ IsWrongAt a t q kind s)
       → subtree_at t p ≡ Some u → ¬ IsSolvable a u
       → ((q : List ℕ) (v : Tree) → IsBefore q p → subtree_at t q ≡ Some v → IsSolvable a v)
-      → IsUnsolved a t (refusal IllTyped (text_of u ∷ []))
+      → IsReason a t (refusal IllTyped (text_of u ∷ []))
+
+-- the refusal of a tree without a solution
+pub record IsUnsolved (a : Abstract) (t : Tree) (r : Refusal) : Type 0 where
+  pub unsolvable : ¬ IsSolvable a t
+  pub reason : IsReason a t r
