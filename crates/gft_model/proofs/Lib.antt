@@ -57,3 +57,4 @@ pub mod OutputExamples
 pub mod ReplyExamples
 pub mod CommandLaws
 pub mod ReplyLaws
+pub mod UnsolvedLaws
