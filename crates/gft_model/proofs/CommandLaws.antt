@@ -21,7 +21,7 @@ use Rattle.gft_model.specs.Commands as commands
 use Rattle.gft_model.specs.Commands.{Verb, Argument, Nothing, Files, Words, words_in, AreFileNames, of_import, of_write_portable, refusal, tree_rule, Command, Read, IsCalled, IsArgument, files, of_empty, of_quit, to_parse, to_complete, to_linearize, by_name, all, HasBadArgument, of_tree, other, ReadsCommand, unknown_command, option_refused, argument_refused, read, read_bare, InTurn, none, more, refused, refused_later, AreJoined, ReadsCommands, ReadsPipe, pipe, bad_pipe, pipe_refused, ReadsLine, argument_of, command, options_of, verb_of, bad_option, keys_of, pipes_of}
 
 -- what each gives in turn is determined where each by itself is
-in_turn_once : {A B : Type 0} {R : A → Result B Refusal → Type 0}
+pub in_turn_once : {A B : Type 0} {R : A → Result B Refusal → Type 0}
     → (once : (x : A) (p q : Result B Refusal) → R x p → R x q → p ≡ q)
     → {xs : List A} {p q : Result (List B) Refusal} → InTurn R xs p → InTurn R xs q → p ≡ q
 in_turn_once once none none = refl
@@ -36,7 +36,7 @@ in_turn_once once (refused_later d ds) (refused e) = let h = once _ _ _ d e in c
 in_turn_once once (refused_later d ds) (refused_later e es) = let t = in_turn_once once ds es in cc
 
 -- place by place
-zip_once : {A B : Type 0} {R : A → B → Type 0} → (once : (x : A) (y z : B) → R x y → R x z → y ≡ z)
+pub zip_once : {A B : Type 0} {R : A → B → Type 0} → (once : (x : A) (y z : B) → R x y → R x z → y ≡ z)
     → (xs : List A) (ys zs : List B) → AllZip R xs ys → AllZip R xs zs → ys ≡ zs
 zip_once once [] [] [] d e = refl
 zip_once once [] [] (z ∷ zs) d e = absurd e

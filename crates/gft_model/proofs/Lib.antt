@@ -58,3 +58,4 @@ pub mod ReplyExamples
 pub mod CommandLaws
 pub mod ReplyLaws
 pub mod UnsolvedLaws
+pub mod AnswerLaws
