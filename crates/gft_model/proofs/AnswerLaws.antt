@@ -274,7 +274,7 @@ module _ (S : Sources) (determined : AreDetermined S) where
   -- ANSWERS
 
   -- what a pipe answers where no load or save fails
-  pipe_once : {held : Held} {read : Read} {n m : ℕ} {x y : Answer} → PipeSteps S held read n x → n ≡ 0 → PipeSteps S held read m y
+  pub pipe_once : {held : Held} {read : Read} {n m : ℕ} {x y : Answer} → PipeSteps S held read n x → n ≡ 0 → PipeSteps S held read m y
       → m ≡ 0 → x ≡ y
   pipe_once PipeSteps.refused e PipeSteps.refused f = refl
   pipe_once {held} (PipeSteps.lacking d) e (PipeSteps.lacking g) f = ap (λ r. refusing held r []) (lacks_first_once d g)

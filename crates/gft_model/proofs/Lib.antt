@@ -59,3 +59,4 @@ pub mod CommandLaws
 pub mod ReplyLaws
 pub mod UnsolvedLaws
 pub mod AnswerLaws
+pub mod OutputLaws
