@@ -41,7 +41,8 @@ module _ (g : Loaded) where
       let cats : b ≡ cat = cc in
       let ls : l ≡ m = cc in
       let P : ℕ → List ℕ × Kept → Type 0 = λ x y. Completes g.abs (language_of g.abs x y) x words items in
-      ap Ok (completes_once g.abs (language_of g.abs cat m) cat words items others (subst (P cat) ls (subst (λ x. P x l) cats d)) e)
+      ap Ok (completes_once g.abs (language_of g.abs cat m) cat words items others
+      (subst (P cat) ls (subst (λ x. P x l) cats d)) e)
   makes_once (completed v t k f d) (too_long u) = cc
   makes_once (too_long u) (parsed v t k f d) = cc
   makes_once (too_long u) (completed v t k f d) = cc
@@ -57,7 +58,8 @@ module _ (g : Loaded) where
   makes_once (unsolved {t} u) (unsolved v) = ap Err (reason_once g.abs t u.reason v.reason)
   makes_once passed passed = refl
 
-  runs_once : {cs : List Command} {items : List Item} {p q : Result (List Item) Refusal} → Runs g cs items p → Runs g cs items q → p ≡ q
+  runs_once : {cs : List Command} {items : List Item} {p q : Result (List Item) Refusal} → Runs g cs items p
+      → Runs g cs items q → p ≡ q
   runs_once done done = refl
   runs_once {p = p} (next {cs} made d ds) (next others e es) =
       let h = in_turn_once (λ x p q. makes_once) d e in
@@ -80,7 +82,8 @@ lacks_once (no_grammar e i m q) (no_such_language f l k h) = cc
 lacks_once (no_grammar e i m q) (no_such_category f l k h) = cc
 lacks_once (no_language f l k) (no_grammar e i m q) = cc
 lacks_once (no_language f l k) (no_language e m h) = refl
-lacks_once (no_language {g} f l k) (no_such_language {g = h} e n o u) = let same : g ≡ h = cc in absurd (n (sym (ap (λ x. x.languages) same) ∙ l))
+lacks_once (no_language {g} f l k) (no_such_language {g = h} e n o u) = let same : g ≡ h = cc in
+    absurd (n (sym (ap (λ x. x.languages) same) ∙ l))
 lacks_once {c = c} (no_language {g} f l k) (no_such_category {g = h} e n o u) = let same : g ≡ h = cc in
     absurd (n (ap (λ x. languages_for x c.lang) (sym (ap (λ x. x.languages) same) ∙ l) ∙ no_languages_for c.lang))
 lacks_once (no_such_language f l k h) (no_grammar e i m q) = cc
@@ -119,7 +122,8 @@ pub record AreDetermined (S : Sources) : Type 0 where
   pub one_compiled : (flat : Flat) (name : List ℕ) (c d : Concrete) → S.compiles flat name c → S.compiles flat name d → c ≡ d
 
 module _ (S : Sources) (determined : AreDetermined S) where
-  imported_once : {files : Files} {names : List (List ℕ)} {p q : Loaded} → IsImported S files names p → IsImported S files names q
+  imported_once : {files : Files} {names : List (List ℕ)} {p q : Loaded} → IsImported S files names p
+      → IsImported S files names q
       → p ≡ q
   imported_once {files} {names} x y =
       let parts = zip_once (determined.one_part files names) names (x.first ∷ x.others) (y.first ∷ y.others) x.given y.given in
@@ -218,7 +222,8 @@ module _ (S : Sources) (determined : AreDetermined S) where
   first_of (Does.runs {c} {others} f g i d) = (c, (others, g))
   first_of (Does.run_refused {c} {others} f g i d) = (c, (others, g))
 
-  by_once : {held : Held} {cs : List Command} {verb : Verb} {a : Argument} {x y : Answer} → By held cs verb a x → By held cs verb a y
+  by_once : {held : Held} {cs : List Command} {verb : Verb} {a : Argument} {x y : Answer} → By held cs verb a x
+      → By held cs verb a y
       → x ≡ y
   by_once {held} (imports {joined} d j) (imports {joined = other} e k) =
       let same = joins_once (subst (λ n. Joins held.state n joined) (imported_once d e) j) k in
@@ -274,7 +279,8 @@ module _ (S : Sources) (determined : AreDetermined S) where
   -- ANSWERS
 
   -- what a pipe answers where no load or save fails
-  pub pipe_once : {held : Held} {read : Read} {n m : ℕ} {x y : Answer} → PipeSteps S held read n x → n ≡ 0 → PipeSteps S held read m y
+  pub pipe_once : {held : Held} {read : Read} {n m : ℕ} {x y : Answer} → PipeSteps S held read n x → n ≡ 0
+      → PipeSteps S held read m y
       → m ≡ 0 → x ≡ y
   pipe_once PipeSteps.refused e PipeSteps.refused f = refl
   pipe_once {held} (PipeSteps.lacking d) e (PipeSteps.lacking g) f = ap (λ r. refusing held r []) (lacks_first_once d g)
@@ -296,7 +302,8 @@ module _ (S : Sources) (determined : AreDetermined S) where
       let h = pipe_once d (omega (arith, e)) g f in let ends = sym l ∙ ap (λ (z : Answer). z.ends) h ∙ k in cc
   pipes_once (AllSteps.more {reads} {m} {b} d l ds) e (AllSteps.more {a} g k gs) f =
       let h = pipe_once d (omega (arith, e)) g (omega (arith, f)) in
-      let others = pipes_once (subst (λ (z : Answer). AllSteps S z.after reads m b) h ds) (omega (arith, e)) gs (omega (arith, f)) in
+      let moved = subst (λ (z : Answer). AllSteps S z.after reads m b) h ds in
+      let others = pipes_once moved (omega (arith, e)) gs (omega (arith, f)) in
       ap (λ (z : Answer). followed z b) h ∙ ap (followed a) others
 
   -- a session has at most one answer to a line where no load or save fails

@@ -69,12 +69,12 @@ tree_once {text = text} {t = t} {u = u} s r = let a = spells_reads text t s in l
 
 -- what stands between quotes, read back
 abbrev mutual
-  inner : List ℕ → Option (List ℕ)
+  pub inner : List ℕ → Option (List ℕ)
   inner [] = None
   inner (c ∷ cs) =
       if c == 34 then Some [] else if c == 92 then kept cs else option_map (λ w. c ∷ w) (inner cs)
 
-  kept : List ℕ → Option (List ℕ)
+  pub kept : List ℕ → Option (List ℕ)
   kept [] = None
   kept (c ∷ cs) = option_map (λ w. c ∷ w) (inner cs)
 
@@ -88,7 +88,7 @@ inner_step c rest = split (c == 34) (c == 92) refl refl where
       ap (λ a. if a then Some [] else if c == 92 then kept rest else option_map (λ w. c ∷ w) (inner rest)) e
       ∙ ap (λ b. if b then kept rest else option_map (λ w. c ∷ w) (inner rest)) f
 
-inner_of : (w : List ℕ) → inner (flat_map escaped w ++ 34 ∷ []) ≡ Some w
+pub inner_of : (w : List ℕ) → inner (flat_map escaped w ++ 34 ∷ []) ≡ Some w
 inner_of [] = refl
 inner_of (c ∷ w) =
     ap (λ z. inner (z ++ 34 ∷ [])) (flat_map-cons escaped c w)

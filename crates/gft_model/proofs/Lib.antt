@@ -60,3 +60,4 @@ pub mod ReplyLaws
 pub mod UnsolvedLaws
 pub mod AnswerLaws
 pub mod OutputLaws
+pub mod LineReadings

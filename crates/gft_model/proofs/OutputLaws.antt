@@ -26,7 +26,8 @@ words_once : {ws outs counts files others numbers names : List (List ℕ)} → A
     → AreWords ws others numbers names → SameWords outs counts files others numbers names
 words_once none none = record { same_outs = refl; same_counts = refl; same_files = refl }
 words_once (a_file {w} p d) (a_file q e) =
-    let h = words_once d e in record { same_outs = h.same_outs; same_counts = h.same_counts; same_files = ap (λ xs. w ∷ xs) h.same_files }
+    let h = words_once d e in
+    record { same_outs = h.same_outs; same_counts = h.same_counts; same_files = ap (λ xs. w ∷ xs) h.same_files }
 words_once (a_file p d) only_files = cc
 words_once (a_file p d) (an_out q e) = cc
 words_once (a_file p d) (an_out_is {v} e) = absurd (two_hyphens (codes "--make=" ++ v) _ refl p)
@@ -36,16 +37,20 @@ words_once only_files (a_file p d) = cc
 words_once only_files only_files = record { same_outs = refl; same_counts = refl; same_files = refl }
 words_once (an_out p d) (a_file q e) = cc
 words_once (an_out {v} p d) (an_out q e) =
-    let h = words_once d e in record { same_outs = ap (λ xs. v ∷ xs) h.same_outs; same_counts = h.same_counts; same_files = h.same_files }
+    let h = words_once d e in
+    record { same_outs = ap (λ xs. v ∷ xs) h.same_outs; same_counts = h.same_counts; same_files = h.same_files }
 words_once (an_out_is {v} d) (a_file q e) = absurd (two_hyphens (codes "--make=" ++ v) _ refl q)
 words_once (an_out_is {v} d) (an_out_is e) =
-    let h = words_once d e in record { same_outs = ap (λ xs. v ∷ xs) h.same_outs; same_counts = h.same_counts; same_files = h.same_files }
+    let h = words_once d e in
+    record { same_outs = ap (λ xs. v ∷ xs) h.same_outs; same_counts = h.same_counts; same_files = h.same_files }
 words_once (a_count p d) (a_file q e) = cc
 words_once (a_count {v} p d) (a_count q e) =
-    let h = words_once d e in record { same_outs = h.same_outs; same_counts = ap (λ xs. v ∷ xs) h.same_counts; same_files = h.same_files }
+    let h = words_once d e in
+    record { same_outs = h.same_outs; same_counts = ap (λ xs. v ∷ xs) h.same_counts; same_files = h.same_files }
 words_once (a_count_is {v} d) (a_file q e) = absurd (two_hyphens (codes "--workload=" ++ v) _ refl q)
 words_once (a_count_is {v} d) (a_count_is e) =
-    let h = words_once d e in record { same_outs = h.same_outs; same_counts = ap (λ xs. v ∷ xs) h.same_counts; same_files = h.same_files }
+    let h = words_once d e in
+    record { same_outs = h.same_outs; same_counts = ap (λ xs. v ∷ xs) h.same_counts; same_files = h.same_files }
 
 -- the mode
 asks_once : {words : List (List ℕ)} {m n : Mode} → Asks words m → Asks words n → m ≡ n
@@ -69,13 +74,15 @@ pipe_is_once (bad_name n) (pipe a) = absurd (n a)
 pipe_is_once (bad_name n) (bad_name m) = refl
 
 module _ (S : Sources) (determined : AreDetermined S) where
-  files_once : {held : Held} {verb : Verb} {names : List (List ℕ)} {n m : ℕ} {x y : Answer} → FilesStep S held verb names n x → n ≡ 0
+  files_once : {held : Held} {verb : Verb} {names : List (List ℕ)} {n m : ℕ} {x y : Answer}
+      → FilesStep S held verb names n x → n ≡ 0
       → FilesStep S held verb names m y → m ≡ 0 → x ≡ y
   files_once {held} {n = n} {x = x} d e g f =
       let moved = subst (λ r. PipeSteps S held r n x) (pipe_is_once d.is g.is) d.steps in
       pipe_once S determined moved e g.steps f
 
-  step_once : {held : Held} {line : List ℕ} {n m : ℕ} {x y : Answer} → Steps S held line n x → n ≡ 0 → Steps S held line m y → m ≡ 0
+  step_once : {held : Held} {line : List ℕ} {n m : ℕ} {x y : Answer} → Steps S held line n x → n ≡ 0
+      → Steps S held line m y → m ≡ 0
       → x ≡ y
   step_once {held} {line} {x = x} {y = y} d e g f =
       answer_once S determined held line x y (subst (λ k. Steps S held line k x) e d) (subst (λ k. Steps S held line k y) f g)
@@ -127,9 +134,11 @@ module _ (S : Sources) (determined : AreDetermined S) where
       before_once h (omega (arith, e)) (omega (arith, f))
       (before_once last (omega (arith, e)) (omega (arith, f)) (ap (λ (x : Answer). plain [] x.after.files) last))
   writes_once (made d r ds) e (not_made g k) f =
-      let h = files_once d (omega (arith, e)) g (omega (arith, f)) in let flags = sym r ∙ ap (λ (x : Answer). x.refused) h ∙ k in cc
+      let h = files_once d (omega (arith, e)) g (omega (arith, f)) in let flags = sym r
+      ∙ ap (λ (x : Answer). x.refused) h ∙ k in cc
   writes_once (not_made d r) e (made g k gs) f =
-      let h = files_once d (omega (arith, e)) g (omega (arith, f)) in let flags = sym r ∙ ap (λ (x : Answer). x.refused) h ∙ k in cc
+      let h = files_once d (omega (arith, e)) g (omega (arith, f)) in let flags = sym r
+      ∙ ap (λ (x : Answer). x.refused) h ∙ k in cc
   writes_once (not_made d r) e (not_made g k) f =
       let h = files_once d (omega (arith, e)) g (omega (arith, f)) in
       before_once h (omega (arith, e)) (omega (arith, f)) (ap (λ (x : Answer). plain [] x.after.files) h)

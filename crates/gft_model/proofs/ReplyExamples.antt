@@ -87,7 +87,16 @@ typed = typing.HasType.application (2, omega arith, refl) (outs-App _ _) typing.
 solved : IsSolution dead h h
 solved = record {
   instance = (Hole, simp filled-App);
-  typed = ([], ([], record { moves = []; below = search rules; is = refl }, typing.empty), record { cat = 3; args = [] }, typed);
+  typed = (
+    [],
+    ([], record { moves = []; below = search rules; is = refl }, typing.empty),
+    record {
+      cat = 3;
+      args =
+          [];
+    },
+    typed,
+  );
   general = λ t i s. i;
   numbered = simp holes_of-App;
 }

@@ -42,7 +42,8 @@ module _ {A : Type 0} (R : A → A → Type 0) where
 
   module _ (apart : IsAsymmetric R) where
     -- one half of what follows: the heads are equal, and so are the items of the tails
-    same_heads : (x y : A) (xs ys : List A) → AllPairs R (x ∷ xs) → AllPairs R (y ∷ ys) → Contains (y ∷ ys) x → Contains (x ∷ xs) y
+    same_heads : (x y : A) (xs ys : List A) → AllPairs R (x ∷ xs) → AllPairs R (y ∷ ys) → Contains (y ∷ ys) x
+        → Contains (x ∷ xs) y
         → x ≡ y
     same_heads x y xs ys o p m n = ⊎_elim {C = x ≡ y} (λ e. sym e)
         (λ i. ⊎_elim {C = x ≡ y} (λ e. e) (λ j. absurd (apart x y (head_first x y xs o j) (head_first y x ys p i)))
@@ -50,7 +51,8 @@ module _ {A : Type 0} (R : A → A → Type 0) where
 
     in_tail : (x y z : A) (xs ys : List A) → AllPairs R (x ∷ xs) → x ≡ y → Contains xs z → Contains (y ∷ ys) z → Contains ys z
     in_tail x y z xs ys o e m n = ⊎_elim {C = Contains ys z}
-        (λ f. let r : R x x = subst (R x) (sym (e ∙ f)) (head_first x z xs o m) in absurd (apart x x r r)) (λ i. i) (split_off y z ys n)
+        (λ f. let r : R x x = subst (R x) (sym (e ∙ f)) (head_first x z xs o m) in
+        absurd (apart x x r r)) (λ i. i) (split_off y z ys n)
 
     -- two lists in order with the same items are equal
     order_once : (xs ys : List A) → AllPairs R xs → AllPairs R ys → ((z : A) → Contains xs z ↔ Contains ys z) → xs ≡ ys
@@ -66,7 +68,8 @@ module _ {A : Type 0} (R : A → A → Type 0) where
         )) in cc
 
 -- two lists with exactly the same members
-same_members : {A : Type 0} {P : A → Type 0} (xs ys : List A) → ((z : A) → Contains xs z ↔ P z) → ((z : A) → Contains ys z ↔ P z)
+same_members : {A : Type 0} {P : A → Type 0} (xs ys : List A) → ((z : A) → Contains xs z ↔ P z)
+    → ((z : A) → Contains ys z ↔ P z)
     → (z : A) → Contains xs z ↔ Contains ys z
 same_members xs ys h k z = (λ m. (k z).1 ((h z).0 m), λ m. (h z).1 ((k z).0 m))
 
@@ -138,23 +141,28 @@ module _ (a : Abstract) (L : Language) where
       let parts : words ≡ (f.before ++ w ∷ []) ++ f.after = f.parts ∙ sym (append_assoc f.before (w ∷ []) f.after) in
       f.begin_not (begins_before cat (f.before ++ w ∷ []) f.after (subst (Begins a L cat) parts b))
 
-  fails_once : (cat : ℕ) (words : List (List ℕ)) (n m : ℕ) (v w : List ℕ) → FailsAt a L cat words n v → FailsAt a L cat words m w
+  fails_once : (cat : ℕ) (words : List (List ℕ)) (n m : ℕ) (v w : List ℕ) → FailsAt a L cat words n v
+      → FailsAt a L cat words m w
       → (n ≡ m) × (v ≡ w)
   fails_once cat words n m v w f g = of_splits (splits f.before g.before v w f.after g.after (sym f.parts ∙ g.parts)) where
     of_splits : Splits f.before g.before v w → (n ≡ m) × (v ≡ w)
     of_splits (same e h) = (f.is_number ∙ ap (λ b. suc (length b)) e ∙ sym g.is_number, h)
-    of_splits (shorter ys e) = absurd (f.begin_not (begins_before cat (f.before ++ v ∷ []) ys (subst (Begins a L cat) e g.begin)))
-    of_splits (longer ys e) = absurd (g.begin_not (begins_before cat (g.before ++ w ∷ []) ys (subst (Begins a L cat) e f.begin)))
+    of_splits (shorter ys e) =
+        absurd (f.begin_not (begins_before cat (f.before ++ v ∷ []) ys (subst (Begins a L cat) e g.begin)))
+    of_splits (longer ys e) =
+        absurd (g.begin_not (begins_before cat (g.before ++ w ∷ []) ys (subst (Begins a L cat) e f.begin)))
 
   -- the one line of a notice
-  notice_once : (cat : ℕ) (words : List (List ℕ)) (n m : ℕ) (v w : List ℕ) → FailsAt a L cat words n v → FailsAt a L cat words m w
+  notice_once : (cat : ℕ) (words : List (List ℕ)) (n m : ℕ) (v w : List ℕ) → FailsAt a L cat words n v
+      → FailsAt a L cat words m w
       → ◌≡◌ {A = List Item} (a_line (failed_line n v) ∷ []) (a_line (failed_line m w) ∷ [])
   notice_once cat words n m v w f g =
       let same = fails_once cat words n m v w f g in
       ap (λ k. a_line (failed_line k v) ∷ []) same.0 ∙ ap (λ u. a_line (failed_line m u) ∷ []) same.1
 
   -- a listed pattern is of a sentence
-  some_listed : (cat : ℕ) (words : List (List ℕ)) (depth : ℕ) (t : Tree) (ts : List Tree) → IsListing a L cat words depth (t ∷ ts)
+  some_listed : (cat : ℕ) (words : List (List ℕ)) (depth : ℕ) (t : Tree) (ts : List Tree)
+      → IsListing a L cat words depth (t ∷ ts)
       → IsSentence a L cat words
   some_listed cat words depth t ts x = listed_is_sentence cat words depth t ((x.all t).0 (zero, omega arith, refl))
 
@@ -164,7 +172,8 @@ module _ (a : Abstract) (L : Language) where
       ap (map a_tree) (listing_once cat words depth (t ∷ ts) (u ∷ us) x y)
   parses_once cat words depth items others (listed {t} {ts} x) (Parses.failed n w f) =
       absurd (begins_or_fails cat words n w (sentence_begins cat words (some_listed cat words depth t ts x)) f)
-  parses_once cat words depth items others (listed {t} {ts} x) (not_complete b s) = absurd (s (some_listed cat words depth t ts x))
+  parses_once cat words depth items others (listed {t} {ts} x) (not_complete b s) =
+      absurd (s (some_listed cat words depth t ts x))
   parses_once cat words depth items others (listed {t} {ts} x) (no_tree s y) =
       let h = listing_once cat words depth (t ∷ ts) [] x y in cc
   parses_once cat words depth items others (Parses.failed n w f) (listed {t} {ts} x) =
@@ -173,7 +182,8 @@ module _ (a : Abstract) (L : Language) where
   parses_once cat words depth items others (Parses.failed n w f) (not_complete b s) = absurd (begins_or_fails cat words n w b f)
   parses_once cat words depth items others (Parses.failed n w f) (no_tree s y) =
       absurd (begins_or_fails cat words n w (sentence_begins cat words s) f)
-  parses_once cat words depth items others (not_complete b s) (listed {t} {ts} x) = absurd (s (some_listed cat words depth t ts x))
+  parses_once cat words depth items others (not_complete b s) (listed {t} {ts} x) =
+      absurd (s (some_listed cat words depth t ts x))
   parses_once cat words depth items others (not_complete b s) (Parses.failed n w f) = absurd (begins_or_fails cat words n w b f)
   parses_once cat words depth items others (not_complete b s) (not_complete c r) = refl
   parses_once cat words depth items others (not_complete b s) (no_tree r y) = absurd (s r)

@@ -137,6 +137,7 @@ module _ (a : Abstract) (t : Tree) where
   reason_once (ill_typed none e n b) (wrong w f) = absurd (none _ _ _ w)
   reason_once (ill_typed {p} {u} none e n b) (ill_typed {p = q} {u = v} never f m c) = of_compared (compared p q) where
     of_compared : Compared p q → refusal IllTyped (text_of u ∷ []) ≡ refusal IllTyped (text_of v ∷ [])
-    of_compared (same h) = let trees : u ≡ v = let x = ap (subtree_at t) h in cc in ap (λ x. refusal IllTyped (text_of x ∷ [])) trees
+    of_compared (same h) = let trees : u ≡ v = let x = ap (subtree_at t) h in cc in
+        ap (λ x. refusal IllTyped (text_of x ∷ [])) trees
     of_compared (first h) = absurd (n (c p u h e))
     of_compared (later h) = absurd (m (b q v h f))

@@ -10,6 +10,10 @@ use Rattle.gft_model.specs.States.{Kept, language_of}
 abbrev pub LineIsReadOnce : Type 0
 LineIsReadOnce = (line : List ℕ) (reads others : List Read) → ReadsLine line reads → ReadsLine line others → reads ≡ others
 
+-- and they are read in some way
+abbrev pub LineIsRead : Type 0
+LineIsRead = (line : List ℕ) → (reads : List Read) × ReadsLine line reads
+
 -- `parse` has at most one answer: patterns or one of the notices
 abbrev pub ParseAnswersOnce : Type 0
 ParseAnswersOnce =

@@ -1,5 +1,10 @@
 //! Laws of command lines and answers. Each function does nothing; its clause is the law.
-ghost use Rattle.gft_model.specs.AnswerLaws.{LineIsReadOnce, ParseAnswersOnce, CompleteAnswersOnce, TextsAreDetermined};
+ghost use Rattle.gft_model.specs.AnswerLaws.{LineIsRead, LineIsReadOnce, ParseAnswersOnce, CompleteAnswersOnce, TextsAreDetermined};
+
+/// Every line is read, each of its pipes as commands or as a refusal.
+pub fn line_is_read()
+    ensures { LineIsRead }
+{}
 
 /// A line is read in at most one way: as the same pipes and the same refusals.
 pub fn line_is_read_once()

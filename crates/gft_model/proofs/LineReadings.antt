@@ -1,0 +1,282 @@
+-- Every line is read in some way.
+use Rattle.std.proofs.Common.{◌≡◌, ◌≢◌, refl, sym, ap, ◌∙◌, subst, ℕ, zero, suc, List, [], ◌∷◌, ◌++◌, true, false, Bool, arith, ⊎_elim, inl, inr, ◌⊎◌, length, drop}
+use Rattle.std.specs.Prelude.{Option, Some, None, Result, Ok, Err, All, ◌==◌, if◌then◌else◌, not}
+use Rattle.std.specs.List.{AllZip}
+use Rattle.std.proofs.Math.Dec.{eqb}
+use Rattle.std.proofs.lemmas.Bool.Decides.{eqb_tells}
+use Rattle.gft_core.specs.Names.{spells_name}
+use Rattle.gft_core.specs.declared.tree.Tree.{Tree}
+use Rattle.gft_io.specs.Lines.{with_first}
+use Rattle.gft_rules.specs.declared.refusal.Refusal.{Refusal}
+use Rattle.gft_tree.specs.Faults.{bytes}
+use Rattle.gft_tree.specs.Reading.{read_on, start}
+use Rattle.gft_tree.specs.Trees.{quoted}
+use Rattle.gft_tree.specs.declared.error.TreeErr.{TreeErr}
+use Rattle.gft_tree.proofs.AnswerLemmas.{is_read, is_refused}
+use Rattle.gft_model.specs.Commands.{Verb, Import, Empty, Quit, Parse, Linearize, Complete, AbstractInfo, WritePortable, Argument, Nothing, Files, Words, Name, Command, Read, words_in, EndsIn, source_ending, portable_ending, IsFileName, AreFileNames, of_import, of_write_portable, IsArgument, files, of_empty, of_quit, to_parse, to_complete, to_linearize, by_name, all, HasBadArgument, of_tree, other, IsCalled, ReadsCommand, unknown_command, option_refused, argument_refused, read, read_bare, InTurn, none, more, refused, refused_later, TakesUp, AreJoined, last, next, in_pipe, commands_of, parts, quoted_parts, kept_parts, ReadsCommands, ReadsPipe, pipe, bad_pipe, pipe_refused, pipes_of, ReadsLine, verb_of, bad_option, keys_of, options_of, argument_of}
+use Rattle.gft_model.specs.Commands as commands
+use Rattle.gft_model.proofs.CommandLaws.{inner, inner_of}
+
+-- equal lists or not
+same_or_not : (a b : List ℕ) → (a ≡ b) ⊎ (a ≢ b)
+same_or_not [] [] = inl refl
+same_or_not [] (y ∷ b) = inr (λ e. cc)
+same_or_not (x ∷ a) [] = inr (λ e. cc)
+same_or_not (x ∷ a) (y ∷ b) = ⊎_elim {C = (x ∷ a ≡ y ∷ b) ⊎ (x ∷ a ≢ y ∷ b)}
+    (λ (h : (eqb x y ≡ true) × (x ≡ y)). let heads = h.1 in
+    ⊎_elim {C = (x ∷ a ≡ y ∷ b) ⊎ (x ∷ a ≢ y ∷ b)} (λ t. inl cc) (λ n. inr (λ e. n cc)) (same_or_not a b))
+    (λ (h : (eqb x y ≡ false) × (x ≢ y)). inr (λ e. h.1 cc)) (eqb_tells x y)
+
+-- a name ends so or not
+ends_or_not : (ending name : List ℕ) → ending ≢ [] → EndsIn ending name ⊎ (¬ EndsIn ending name)
+ends_or_not ending [] some = inr (λ e. none_before e.0 (sym e.1)) where
+  none_before : (base : List ℕ) → base ++ ending ≡ [] → ⊥
+  none_before [] e = some e
+  none_before (c ∷ base) e = cc
+ends_or_not ending (c ∷ cs) some = ⊎_elim {C = EndsIn ending (c ∷ cs) ⊎ (¬ EndsIn ending (c ∷ cs))} (λ e. inl ([], e))
+    (λ n. ⊎_elim {C = EndsIn ending (c ∷ cs) ⊎ (¬ EndsIn ending (c ∷ cs))} (λ e. inl (c ∷ e.0, ap (λ xs. c ∷ xs) e.1))
+    (λ m. inr (λ e. neither n m e.0 e.1)) (ends_or_not ending cs some)) (same_or_not (c ∷ cs) ending) where
+      neither : c ∷ cs ≢ ending → ¬ EndsIn ending cs → (base : List ℕ) → c ∷ cs ≡ base ++ ending → ⊥
+      neither n m [] e = n e
+      neither n m (d ∷ base) e = m (base, cc)
+
+-- a text is quoted or not
+quoted_or_not : (text : List ℕ) → ((w : List ℕ) × (text ≡ quoted w)) ⊎ ((w : List ℕ) → text ≢ quoted w)
+quoted_or_not text = by_inner (inner (drop 1 text)) refl where
+  by_inner : (o : Option (List ℕ)) → inner (drop 1 text) ≡ o
+      → ((w : List ℕ) × (text ≡ quoted w)) ⊎ ((w : List ℕ) → text ≢ quoted w)
+  by_inner None e = inr (λ w h. let found = sym e ∙ ap (λ t. inner (drop 1 t)) h ∙ inner_of w in cc)
+  by_inner (Some v) e = ⊎_elim {C = ((w : List ℕ) × (text ≡ quoted w)) ⊎ ((w : List ℕ) → text ≢ quoted w)} (λ h. inl (v, h))
+      (λ n. inr (λ w h. let found : v ≡ w = let f = sym e ∙ ap (λ t. inner (drop 1 t)) h ∙ inner_of w in cc in
+      n (h ∙ ap quoted (sym found)))) (same_or_not text (quoted v))
+
+-- what holds or does not
+abbrev Decided : Type 0 → Type 0
+Decided P = P ⊎ (P → ⊥)
+
+-- file names are of the form of a command or not
+file_name_or_not : (name : List ℕ) → Decided (IsFileName name)
+file_name_or_not name = ⊎_elim {C = Decided (IsFileName name)} (λ e. inl (inl e))
+    (λ n. ⊎_elim {C = Decided (IsFileName name)} (λ e. inl (inr e)) (λ m. inr (λ h. ⊎_elim {C = ⊥} n m h))
+    (ends_or_not portable_ending name (λ e. cc))) (ends_or_not source_ending name (λ e. cc))
+
+all_or_not : (names : List (List ℕ)) → Decided (All IsFileName names)
+all_or_not [] = inl (λ k d b. absurd (omega (arith, b)))
+all_or_not (n ∷ ns) = ⊎_elim {C = Decided (All IsFileName (n ∷ ns))}
+    (λ h. ⊎_elim {C = Decided (All IsFileName (n ∷ ns))} (λ t. inl (both h t))
+    (λ m. inr (λ a. m (λ k d b. a (suc k) d (omega (arith, b))))) (all_or_not ns))
+    (λ m. inr (λ a. m (a zero [] (omega arith)))) (file_name_or_not n) where
+      both : IsFileName n → All IsFileName ns → All IsFileName (n ∷ ns)
+      both h t zero d b = h
+      both h t (suc k) d b = t k d (omega (arith, b))
+
+import_names : (names : List (List ℕ)) → Decided (AreFileNames Import names)
+import_names [] = inr (λ d. elim d [ ])
+import_names (n ∷ ns) =
+    ⊎_elim {C = Decided (AreFileNames Import (n ∷ ns))} (λ a. inl (of_import a)) (λ m. inr (λ d. m (all_of d)))
+    (all_or_not (n ∷ ns)) where
+      all_of : AreFileNames Import (n ∷ ns) → All IsFileName (n ∷ ns)
+      all_of (of_import a) = a
+
+write_names : (names : List (List ℕ)) → Decided (AreFileNames WritePortable names)
+write_names [] = inr (λ d. elim d [ ])
+write_names (n ∷ m ∷ ns) = inr (λ d. elim d [ ])
+write_names (n ∷ []) = ⊎_elim {C = Decided (AreFileNames WritePortable (n ∷ []))} (λ e. inl (of_write_portable e))
+    (λ none. inr (λ d. none (ending_of d))) (ends_or_not portable_ending n (λ e. cc)) where
+      ending_of : AreFileNames WritePortable (n ∷ []) → EndsIn portable_ending n
+      ending_of (of_write_portable e) = e
+
+-- a text is an argument of a command, or it is refused as one
+abbrev Told : Verb → List ℕ → Type 0
+Told verb text = ((a : Argument) × IsArgument verb text a) ⊎ ((r : Refusal) × HasBadArgument verb text r)
+
+import_told : (text : List ℕ) → Told Import text
+import_told text = ⊎_elim {C = Told Import text} (λ d. inl (Files (words_in text), files d))
+    (λ n. inr (_, other (λ e. cc) (λ a d. n (names_of d)))) (import_names (words_in text)) where
+      names_of : {a : Argument} → IsArgument Import text a → AreFileNames Import (words_in text)
+      names_of (files d) = d
+
+write_told : (text : List ℕ) → Told WritePortable text
+write_told text = ⊎_elim {C = Told WritePortable text} (λ d. inl (Files (words_in text), files d))
+    (λ n. inr (_, other (λ e. cc) (λ a d. n (names_of d)))) (write_names (words_in text)) where
+      names_of : {a : Argument} → IsArgument WritePortable text a → AreFileNames WritePortable (words_in text)
+      names_of (files d) = d
+
+empty_told : (text : List ℕ) → Told Empty text
+empty_told [] = inl (Nothing, of_empty)
+empty_told (c ∷ cs) = inr (_, other (λ e. cc) (λ a d. never d)) where
+  never : {a : Argument} → ¬ IsArgument Empty (c ∷ cs) a
+  never (files d) = elim d [ ]
+
+quit_told : (text : List ℕ) → Told Quit text
+quit_told [] = inl (Nothing, of_quit)
+quit_told (c ∷ cs) = inr (_, other (λ e. cc) (λ a d. never d)) where
+  never : {a : Argument} → ¬ IsArgument Quit (c ∷ cs) a
+  never (files d) = elim d [ ]
+
+parse_told : (text : List ℕ) → Told Parse text
+parse_told text = ⊎_elim {C = Told Parse text} (λ q. inl (_, to_parse q.0 q.1))
+    (λ n. inr (_, other (λ e. cc) (λ a d. never n d))) (quoted_or_not text) where
+      never : ((w : List ℕ) → text ≢ quoted w) → {a : Argument} → ¬ IsArgument Parse text a
+      never n (files d) = elim d [ ]
+      never n (to_parse w e) = n w e
+
+complete_told : (text : List ℕ) → Told Complete text
+complete_told text = ⊎_elim {C = Told Complete text} (λ q. inl (_, to_complete q.0 q.1))
+    (λ n. inr (_, other (λ e. cc) (λ a d. never n d))) (quoted_or_not text) where
+      never : ((w : List ℕ) → text ≢ quoted w) → {a : Argument} → ¬ IsArgument Complete text a
+      never n (files d) = elim d [ ]
+      never n (to_complete w e) = n w e
+
+linearize_told : (text : List ℕ) → Told Linearize text
+linearize_told text = by_result (read_on (bytes text) start text) refl where
+  by_result : (o : Result Tree TreeErr) → read_on (bytes text) start text ≡ o → Told Linearize text
+  by_result (Ok t) e = inl (_, to_linearize (is_read text t e).spelled)
+  by_result (Err f) e = inr (_, of_tree (is_refused text f e))
+
+info_told : (text : List ℕ) → Told AbstractInfo text
+info_told [] = inl (Nothing, all)
+info_told (c ∷ cs) = by_test (spells_name (c ∷ cs)) refl where
+  never : spells_name (c ∷ cs) ≡ false → {a : Argument} → ¬ IsArgument AbstractInfo (c ∷ cs) a
+  never e (files d) = elim d [ ]
+  never e (by_name n) = let h = sym e ∙ n in cc
+
+  by_test : (b : Bool) → spells_name (c ∷ cs) ≡ b → Told AbstractInfo (c ∷ cs)
+  by_test true e = inl (_, by_name e)
+  by_test false e = inr (_, other (λ f. cc) (λ a d. never e d))
+
+told : (verb : Verb) (text : List ℕ) → Told verb text
+told Import text = import_told text
+told Empty text = empty_told text
+told Quit text = quit_told text
+told Parse text = parse_told text
+told Linearize text = linearize_told text
+told Complete text = complete_told text
+told AbstractInfo text = info_told text
+told WritePortable text = write_told text
+
+-- EVERY COMMAND, PIPE AND LINE IS READ
+
+command_read : (later : Bool) (text : List ℕ) → (p : Result Command Refusal) × ReadsCommand later text p
+command_read later text = by_verb (verb_of text) refl where
+  by_argument : (verb : Verb) → IsCalled text verb → (later ≡ true → argument_of text ≢ [])
+      → (p : Result Command Refusal) × ReadsCommand later text p
+  by_argument verb c l = ⊎_elim {C = (p : Result Command Refusal) × ReadsCommand later text p} (λ a. (_, read c a.1))
+      (λ r. (_, argument_refused c l r.1)) (told verb (argument_of text))
+
+  by_length : (verb : Verb) → IsCalled text verb → (b : Bool) → later ≡ b → (t : List ℕ) → argument_of text ≡ t
+      → (p : Result Command Refusal) × ReadsCommand later text p
+  by_length verb c true l [] e = (_, read_bare c l e)
+  by_length verb c true l (x ∷ t) e = by_argument verb c (λ k f. let h = sym e ∙ f in cc)
+  by_length verb c false l t e = by_argument verb c (λ k. let h = sym l ∙ k in cc)
+
+  by_options : (verb : Verb) → verb_of text ≡ Some verb → (o : Option (List ℕ))
+      → bad_option (keys_of verb) (options_of text) ≡ o
+      → (p : Result Command Refusal) × ReadsCommand later text p
+  by_options verb e (Some word) f = (_, option_refused e f)
+  by_options verb e None f = by_length verb (record { named = e; good = f }) later refl (argument_of text) refl
+
+  by_verb : (o : Option Verb) → verb_of text ≡ o → (p : Result Command Refusal) × ReadsCommand later text p
+  by_verb None e = (_, unknown_command e)
+  by_verb (Some verb) e = by_options verb e (bad_option (keys_of verb) (options_of text)) refl
+
+in_turn : {A B : Type 0} {R : A → Result B Refusal → Type 0} → ((x : A) → (p : Result B Refusal) × R x p) → (xs : List A)
+    → (p : Result (List B) Refusal) × InTurn R xs p
+in_turn every [] = (_, none)
+in_turn {A} {B} {R} every (x ∷ xs) =
+    let others = in_turn every xs in by_first (every x).0 (every x).1 others.0 others.1 where
+      by_others : (y : B) → R x (Ok y) → (p : Result (List B) Refusal) → InTurn R xs p
+          → (p : Result (List B) Refusal) × InTurn R (x ∷ xs) p
+      by_others y d (Ok ys) ds = (_, more d ds)
+      by_others y d (Err r) ds = (_, refused_later d ds)
+
+      by_first : (p : Result B Refusal) → R x p → (q : Result (List B) Refusal) → InTurn R xs q
+          → (o : Result (List B) Refusal) × InTurn R (x ∷ xs) o
+      by_first (Ok y) d q ds = by_others y d q ds
+      by_first (Err r) d q ds = (_, refused d)
+
+-- a text has parts
+some_first : (c : ℕ) (xs : List (List ℕ)) → with_first c xs ≢ []
+some_first c [] e = cc
+some_first c (x ∷ xs) e = cc
+
+some_parts : (separator : ℕ) (cs : List ℕ) → parts separator cs ≢ []
+some_parts separator [] e = cc
+some_parts separator (c ∷ cs) e = by_test (c == separator) e where
+  by_test : (b : Bool) → (if b then [] ∷ parts separator cs
+      else with_first c (if c == 34 then quoted_parts separator cs else parts separator cs)) ≡ [] → ⊥
+  by_test true e = cc
+  by_test false e = some_first c _ e
+
+-- so a pipe has a command
+some_commands : (texts : List (List ℕ)) → texts ≢ [] → ¬ InTurn (λ c. ReadsCommand c.0 c.1) (in_pipe texts) (Ok [])
+some_commands [] some d = some refl
+some_commands (text ∷ texts) some d = elim d [ ]
+
+-- a command takes up what another hands on or not
+takes_up_or_not : (v w : Verb) → Decided (TakesUp v w)
+takes_up_or_not Import w = inr (λ d. elim d [ ])
+takes_up_or_not Empty w = inr (λ d. elim d [ ])
+takes_up_or_not Quit w = inr (λ d. elim d [ ])
+takes_up_or_not Complete w = inr (λ d. elim d [ ])
+takes_up_or_not AbstractInfo w = inr (λ d. elim d [ ])
+takes_up_or_not WritePortable w = inr (λ d. elim d [ ])
+takes_up_or_not Parse Linearize = inl commands.trees
+takes_up_or_not Parse Import = inr (λ d. elim d [ ])
+takes_up_or_not Parse Empty = inr (λ d. elim d [ ])
+takes_up_or_not Parse Quit = inr (λ d. elim d [ ])
+takes_up_or_not Parse Parse = inr (λ d. elim d [ ])
+takes_up_or_not Parse Complete = inr (λ d. elim d [ ])
+takes_up_or_not Parse AbstractInfo = inr (λ d. elim d [ ])
+takes_up_or_not Parse WritePortable = inr (λ d. elim d [ ])
+takes_up_or_not Linearize Parse = inl commands.texts
+takes_up_or_not Linearize Complete = inl commands.last_texts
+takes_up_or_not Linearize Import = inr (λ d. elim d [ ])
+takes_up_or_not Linearize Empty = inr (λ d. elim d [ ])
+takes_up_or_not Linearize Quit = inr (λ d. elim d [ ])
+takes_up_or_not Linearize Linearize = inr (λ d. elim d [ ])
+takes_up_or_not Linearize AbstractInfo = inr (λ d. elim d [ ])
+takes_up_or_not Linearize WritePortable = inr (λ d. elim d [ ])
+
+bare_or_not : (a : Argument) → Decided (a ≡ Nothing)
+bare_or_not Nothing = inl refl
+bare_or_not (Files names) = inr (λ e. cc)
+bare_or_not (Words words) = inr (λ e. cc)
+bare_or_not (commands.Tree t) = inr (λ e. cc)
+bare_or_not (Name name) = inr (λ e. cc)
+
+joined_or_not : (c : Command) (cs : List Command) → Decided (AreJoined c cs)
+joined_or_not c [] = inl last
+joined_or_not c (d ∷ cs) = by_parts (takes_up_or_not c.verb d.verb) (bare_or_not d.argument) (joined_or_not d cs) where
+  takes : AreJoined c (d ∷ cs) → TakesUp c.verb d.verb
+  takes (next t b j) = t
+
+  bare : AreJoined c (d ∷ cs) → d.argument ≡ Nothing
+  bare (next t b j) = b
+
+  others : AreJoined c (d ∷ cs) → AreJoined d cs
+  others (next t b j) = j
+
+  by_parts : Decided (TakesUp c.verb d.verb) → Decided (d.argument ≡ Nothing) → Decided (AreJoined d cs)
+      → Decided (AreJoined c (d ∷ cs))
+  by_parts (inl t) (inl b) (inl j) = inl (next t b j)
+  by_parts (inr n) b j = inr (λ h. n (takes h))
+  by_parts (inl t) (inr n) j = inr (λ h. n (bare h))
+  by_parts (inl t) (inl b) (inr n) = inr (λ h. n (others h))
+
+pipe_read : (text : List ℕ) → (r : Read) × ReadsPipe text r
+pipe_read text = let all = in_turn (λ c. command_read c.0 c.1) (in_pipe (commands_of text)) in by_result all.0 all.1 where
+  by_result : (p : Result (List Command) Refusal) → ReadsCommands text p → (r : Read) × ReadsPipe text r
+  by_result (Err r) d = (_, pipe_refused d)
+  by_result (Ok []) d = absurd (some_commands (commands_of text) (some_parts 124 text) d)
+  by_result (Ok (c ∷ cs)) d =
+      ⊎_elim {C = (r : Read) × ReadsPipe text r} (λ j. (_, pipe d j)) (λ n. (_, bad_pipe d n)) (joined_or_not c cs)
+
+pipes_read : (texts : List (List ℕ)) → (reads : List Read) × AllZip ReadsPipe texts reads
+pipes_read [] = ([], tt)
+pipes_read (text ∷ texts) = let first = pipe_read text in let others = pipes_read texts in
+    (first.0 ∷ others.0, (first.1, others.1))
+
+-- every line is read
+pub line_read : (line : List ℕ) → (reads : List Read) × ReadsLine line reads
+line_read line = pipes_read (pipes_of line)
