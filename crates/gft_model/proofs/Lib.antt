@@ -61,3 +61,4 @@ pub mod UnsolvedLaws
 pub mod AnswerLaws
 pub mod OutputLaws
 pub mod LineReadings
+pub mod RefusalExamples

@@ -22,6 +22,12 @@ pub mod ModuleGrammar
 pub mod Productions
 pub mod Compiled
 pub mod Refusals
+pub mod TokenFaults
+pub mod TermParts
+pub mod SyntaxFaults
+pub mod HeaderFaults
+pub mod NameFaults
+pub mod CompileFaults
 pub mod SourceLaws
 pub mod Resting
 pub mod Layers

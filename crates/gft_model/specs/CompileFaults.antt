@@ -1,0 +1,108 @@
+-- Faults of a language when it is compiled, over a typed grammar.
+use Rattle.std.specs.Prelude.{◌≡◌, ℕ, ◌<◌, ◌+◌, List, [], ◌∷◌, ◌++◌, map, flat_map, length, true, false, ◌↔◌, Contains, Option, Some, None, ◌≢◌}
+use Rattle.std.specs.List.{list_any}
+use Rattle.gft_core.specs.declared.place.Place.{Place}
+use Rattle.gft_rules.specs.declared.refusal.Refusal.{Refusal}
+use Rattle.gft_rules.specs.declared.rule.Rule.{Rule}
+use Rattle.gft_rules.specs.declared.rule.Rule.TheVariants as R
+use Rattle.gft_syntax.specs.declared.ctype.CType.{CType}
+use Rattle.gft_syntax.specs.declared.flat.Flat.{Flat}
+use Rattle.gft_syntax.specs.declared.flat.FlatConcrete.{FlatConcrete}
+use Rattle.gft_syntax.specs.declared.flat.FlatJudgement.{FlatJudgement}
+use Rattle.gft_syntax.specs.declared.judgement.Keyword.{Keyword}
+use Rattle.gft_syntax.specs.declared.judgement.Keyword.TheVariants as K
+use Rattle.gft_syntax.specs.declared.reference.PlacedName.{PlacedName}
+use Rattle.gft_syntax.specs.declared.value.Value.{Value}
+use Rattle.gft_model.specs.ConcreteTypes.{cells_of_type, cases_of, product_of}
+use Rattle.gft_model.specs.HeaderFaults.{placed_names, sort_of}
+use Rattle.gft_model.specs.Items.{items_of}
+use Rattle.gft_model.specs.JudgementTyping.{Signature, signature_in}
+use Rattle.gft_model.specs.Languages.{is_lin, is_lincat, is_lindef, is_linref, lin_type}
+use Rattle.gft_model.specs.Outcomes.{Outcome, gives, stuck_at, Stuck, StuckRule, glue_on_argument, match_on_argument, no_string_branch}
+use Rattle.gft_model.specs.Productions.{outcomes_by_case, case_values, given}
+use Rattle.gft_model.specs.Refusals.{Moment, refusal, placeless, name_moment}
+use Rattle.gft_model.specs.TreeStrings.{string_outcomes}
+use Rattle.gft_model.specs.TreeValues.{hole_outcomes}
+
+-- cells of a linearization type, cases of a category or of a function, results of a function
+abbrev pub most_cells : ℕ
+most_cells = 65536
+
+abbrev pub most_cases : ℕ
+most_cases = 65536
+
+abbrev pub most_results : ℕ
+most_results = 65536
+
+-- the rule of a stuck step
+abbrev pub stuck_rule : StuckRule → Rule
+stuck_rule glue_on_argument = R.GlueOnArgument
+stuck_rule match_on_argument = R.MatchOnArgument
+stuck_rule no_string_branch = R.NoStringBranch
+
+-- the first stuck step among outcomes
+abbrev pub first_stuck : List Outcome → Option Stuck
+first_stuck [] = None
+first_stuck (gives v ∷ os) = first_stuck os
+first_stuck (stuck_at k ∷ os) = Some k
+
+-- the same values, each once
+pub record AreDistinct (vs distinct : List Value) : Type 0 where
+  pub same : (v : Value) → Contains distinct v ↔ Contains vs v
+  pub once : (before between after : List Value) (u v : Value) → distinct ≡ before ++ u ∷ between ++ v ∷ after → u ≢ v
+
+-- how many distinct results there are in each case, summed over the cases
+pub data HasResults : List (List Outcome) → ℕ → Type 0 where
+  no_case : HasResults [] 0
+  one_case : {os : List Outcome} {rest : List (List Outcome)} {vs : List Value} {n : ℕ} →
+      AreDistinct (given os) vs → HasResults rest n → HasResults (os ∷ rest) (length vs + n)
+
+-- how many cases a category has
+abbrev pub case_count : Flat → List ℕ → List ℕ → ℕ
+case_count flat lang C = elim (lin_type flat lang C) [ None ↦ 0 | Some T ↦ length (cases_of T) ]
+
+-- what is evaluated for a name: the lin of a function, the lindef or the linref of a category; the
+-- outcomes in each case
+pub data Evaluates (flat : Flat) (lang : List ℕ) : Keyword → List ℕ → List (List Outcome) → Type 0 where
+  of_function : {e : FlatJudgement} → Contains flat.funs e → list_any (is_lin lang e.whole.name) (items_of flat) ≡ true →
+      Evaluates flat lang K.Lin e.whole.name (map (λ c. c.1) (outcomes_by_case flat lang e.whole.name))
+  of_hole : {e : FlatJudgement} → Contains flat.cats e → list_any (is_lindef lang e.whole.name) (items_of flat) ≡ true →
+      Evaluates flat lang K.Lindef e.whole.name (hole_outcomes flat lang e.whole.name ∷ [])
+  of_string : {e : FlatJudgement} {T : CType} → Contains flat.cats e →
+      list_any (is_linref lang e.whole.name) (items_of flat) ≡ true → lin_type flat lang e.whole.name ≡ Some T →
+      Evaluates flat lang K.Linref e.whole.name (map (string_outcomes flat lang e.whole.name) (case_values 0 T))
+
+-- functions come first, by name; then categories, by name, the lindef before the linref
+abbrev pub turn_of : Keyword → List ℕ → Moment
+turn_of K.Lindef C = 4 ∷ name_moment C ++ 0 ∷ []
+turn_of K.Linref C = 4 ∷ name_moment C ++ 1 ∷ []
+turn_of k f = 3 ∷ name_moment f
+
+-- the place of a name in its judgement of that keyword in a language
+pub data StandsAt (flat : Flat) (lang : List ℕ) (k : Keyword) (x : List ℕ) : Place → Type 0 where
+  in_judgement : {c : FlatConcrete} {j : FlatJudgement} {n : PlacedName} → Contains flat.concretes c → c.name ≡ lang →
+      Contains c.judgements j → sort_of j.judgement ≡ Some k → Contains (placed_names j.judgement) n → n.name ≡ x →
+      StandsAt flat lang k x n.place
+
+-- what is broken when a language of a typed grammar is compiled
+pub data BreaksCompiling (flat : Flat) (lang : List ℕ) : Moment → Refusal → Type 0 where
+  no_lincat : {e : FlatJudgement} → Contains flat.cats e → list_any (is_lincat lang e.whole.name) (items_of flat) ≡ false →
+      BreaksCompiling flat lang (0 ∷ name_moment e.whole.name) (placeless R.NoLincat (lang ∷ e.whole.name ∷ []))
+  too_many_cells : {e : FlatJudgement} {T : CType} {p : Place} → Contains flat.cats e → lin_type flat lang e.whole.name ≡ Some T →
+      most_cells < length (cells_of_type T) → StandsAt flat lang K.Lincat e.whole.name p →
+      BreaksCompiling flat lang (0 ∷ name_moment e.whole.name) (refusal R.TooManyCells p (lang ∷ e.whole.name ∷ []))
+  no_lin : {e : FlatJudgement} → Contains flat.funs e → list_any (is_lin lang e.whole.name) (items_of flat) ≡ false →
+      BreaksCompiling flat lang (1 ∷ name_moment e.whole.name) (placeless R.NoLin (lang ∷ e.whole.name ∷ []))
+  too_many_cases : {e : FlatJudgement} {p : Place} → Contains flat.cats e → most_cases < case_count flat lang e.whole.name →
+      StandsAt flat lang K.Lincat e.whole.name p →
+      BreaksCompiling flat lang (2 ∷ name_moment e.whole.name) (refusal R.TooManyCases p (lang ∷ e.whole.name ∷ []))
+  too_many_argument_cases : {e : FlatJudgement} {s : Signature} {p : Place} → Contains flat.funs e →
+      signature_in flat.funs e.whole.name ≡ Some s → most_cases < product_of (map (case_count flat lang) s.arguments) →
+      StandsAt flat lang K.Lin e.whole.name p →
+      BreaksCompiling flat lang (turn_of K.Lin e.whole.name ++ 0 ∷ []) (refusal R.TooManyCases p (lang ∷ e.whole.name ∷ []))
+  is_stuck : {k : Keyword} {x : List ℕ} {cases : List (List Outcome)} {stuck : Stuck} → Evaluates flat lang k x cases →
+      first_stuck (flat_map (λ os. os) cases) ≡ Some stuck →
+      BreaksCompiling flat lang (turn_of k x ++ 1 ∷ []) (refusal (stuck_rule stuck.rule) stuck.place (lang ∷ x ∷ []))
+  too_many_results : {k : Keyword} {x : List ℕ} {cases : List (List Outcome)} {n : ℕ} {p : Place} → Evaluates flat lang k x cases →
+      HasResults cases n → most_results < n → StandsAt flat lang k x p →
+      BreaksCompiling flat lang (turn_of k x ++ 2 ∷ []) (refusal R.TooManyProductions p (lang ∷ x ∷ []))

@@ -1,0 +1,78 @@
+-- Faults of a file's characters: where something is neither white space, nor a comment, nor a token.
+use Rattle.std.specs.Prelude.{◌≡◌, ℕ, zero, suc, ◌+◌, ◌^◌, ◌<◌, ◌≤◌, List, [], ◌∷◌, ◌++◌, map, take, drop, length, Bool, true, false, ◌==◌, ◌||◌, nat_lt, chars, encode_utf8_all, Option, Some, None, Contains, if◌then◌else◌, ◌≢◌}
+use Rattle.std.specs.Char.{is_whitespace}
+use Rattle.std.specs.Str.Lossy.{utf8_valid_len}
+use Rattle.gft_core.specs.declared.place.Place.{Place}
+use Rattle.gft_rules.specs.declared.refusal.Refusal.{Refusal}
+use Rattle.gft_rules.specs.declared.rule.Rule.TheVariants as R
+use Rattle.gft_syntax.specs.declared.token.TokenForm.TheVariants.{Number}
+use Rattle.gft_model.specs.Refusals.{refusal}
+use Rattle.gft_model.specs.Source.{Lexeme, blank, token, nothing, lexeme_at, longest, block_length, escaped, after, first_place}
+
+-- past all characters: what a byte stands as that begins none
+abbrev pub no_character : ℕ
+no_character = 1114112
+
+-- the characters of a file; from the first byte on that begins none, its bytes one by one
+abbrev pub loose : ℕ → ℕ
+loose b = if nat_lt b 128 then b else no_character + b
+
+abbrev pub text_of : List ℕ → List ℕ
+text_of bytes = let n = utf8_valid_len bytes in chars (take n bytes) ++ map loose (drop n bytes)
+
+-- the place after so many of the characters
+abbrev pub moved : ℕ → Place → List ℕ → Place
+moved zero p cs = p
+moved (suc n) p [] = p
+moved (suc n) p (c ∷ cs) = moved n (after c p) cs
+
+-- how many characters the lexeme has, where there is one
+abbrev pub length_of : Lexeme → Option ℕ
+length_of (blank n) = Some n
+length_of (token t n) = Some n
+length_of nothing = None
+
+-- white space, a comment or a token may begin at the place, and these characters are there
+pub data Begins (file : ℕ) (text : List ℕ) : Place → List ℕ → Type 0 where
+  at_start : Begins file text (first_place file) text
+  after_lexeme : {p : Place} {cs : List ℕ} {n : ℕ} →
+      Begins file text p cs → length_of (lexeme_at cs) ≡ Some n → Begins file text (moved n p cs) (drop n cs)
+
+-- whether a text after its opening quote is closed on its line; a backslash goes with what is after it
+abbrev mutual
+  pub is_closed : List ℕ → Bool
+  is_closed [] = false
+  is_closed (c ∷ cs) =
+      elim (c == 92) [ true ↦ is_closed_after cs | false ↦ elim (c == 34 || c == 10) [ true ↦ c == 34 | false ↦ is_closed cs ] ]
+
+  pub is_closed_after : List ℕ → Bool
+  is_closed_after [] = false
+  is_closed_after (c ∷ cs) = elim (c == 10) [ true ↦ false | false ↦ is_closed cs ]
+
+-- the backslashes of a text up to its closing quote, each with the character after it
+abbrev pub escapes_from : Place → List ℕ → List (Place × ℕ)
+escapes_from p [] = []
+escapes_from p (c ∷ []) = []
+escapes_from p (c ∷ d ∷ cs) =
+    elim (c == 92) [
+      | true ↦ (p, d) ∷ escapes_from (after d (after c p)) cs
+      | false ↦ elim (c == 34) [ true ↦ [] | false ↦ escapes_from (after c p) (d ∷ cs) ]
+    ]
+
+-- what is broken in a file's characters; the earliest place counts
+pub data BreaksTokens (file : ℕ) (bytes : List ℕ) : Refusal → Type 0 where
+  not_utf8 : (before rest : List ℕ) (c : ℕ) → text_of bytes ≡ before ++ c ∷ rest → no_character ≤ c →
+      BreaksTokens file bytes (refusal R.NotUtf8 (moved (length before) (first_place file) (text_of bytes)) [])
+  bad_character : {p : Place} {c : ℕ} {cs : List ℕ} → Begins file (text_of bytes) p (c ∷ cs) →
+      longest (c ∷ cs) ≡ None → is_whitespace c ≡ false → c ≢ 34 → c < no_character →
+      BreaksTokens file bytes (refusal R.BadCharacter p (encode_utf8_all (c ∷ []) ∷ []))
+  open_string : {p : Place} {cs : List ℕ} → Begins file (text_of bytes) p (34 ∷ cs) → is_closed cs ≡ false →
+      BreaksTokens file bytes (refusal R.OpenString p [])
+  bad_escape : {p q : Place} {c : ℕ} {cs : List ℕ} → Begins file (text_of bytes) p (34 ∷ cs) → is_closed cs ≡ true →
+      Contains (escapes_from (after 34 p) cs) (q, c) → escaped c ≡ None → c < no_character →
+      BreaksTokens file bytes (refusal R.BadEscape q (encode_utf8_all (c ∷ []) ∷ []))
+  open_comment : {p : Place} {cs : List ℕ} → Begins file (text_of bytes) p (123 ∷ 45 ∷ cs) → block_length cs ≡ None →
+      BreaksTokens file bytes (refusal R.OpenComment p [])
+  number_too_large : {p : Place} {n k : ℕ} {cs s : List ℕ} → Begins file (text_of bytes) p cs →
+      lexeme_at cs ≡ token (Number n s) k → 2 ^ 128 ≤ n →
+      BreaksTokens file bytes (refusal R.NumberTooLarge p [])
