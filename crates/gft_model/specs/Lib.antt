@@ -27,7 +27,13 @@ pub mod TermParts
 pub mod SyntaxFaults
 pub mod HeaderFaults
 pub mod NameFaults
+pub mod AbstractFaults
 pub mod CompileFaults
+pub mod TypeTexts
+pub mod TypingSites
+pub mod TypeFaults
+pub mod JudgementOrder
+pub mod Import
 pub mod SourceLaws
 pub mod Resting
 pub mod Layers

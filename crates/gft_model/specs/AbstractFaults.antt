@@ -1,0 +1,290 @@
+-- Faults of types and indices in an abstract judgement.
+use Rattle.std.specs.Prelude.{◌≡◌, ℕ, suc, ◌+◌, List, [], ◌∷◌, ◌++◌, map, flat_map, length, take, Bool, true, false, ◌⊎◌, codes, decimal, Contains, Option, Some, None, ◌≢◌, slice_get}
+use Rattle.gft_core.specs.Words.{IsWord}
+use Rattle.gft_core.specs.declared.place.Place.{Place}
+use Rattle.gft_core.specs.declared.tree.Tree.{Tree, roll-Tree, fold-Tree}
+use Rattle.gft_core.specs.declared.tree.Tree.TheOpen as Tree-F
+use Rattle.gft_rules.specs.declared.refusal.Refusal.{Refusal}
+use Rattle.gft_rules.specs.declared.rule.Rule.{Rule}
+use Rattle.gft_rules.specs.declared.rule.Rule.TheVariants as R
+use Rattle.gft_syntax.specs.declared.bind.Bind.{Bind}
+use Rattle.gft_syntax.specs.declared.bind.Bind.TheVariants.{Variable, Nothing}
+use Rattle.gft_syntax.specs.declared.flat.FlatJudgement.{FlatJudgement}
+use Rattle.gft_syntax.specs.declared.judgement.Context.{Context}
+use Rattle.gft_syntax.specs.declared.judgement.Judgement.{Judgement}
+use Rattle.gft_syntax.specs.declared.judgement.Judgement.TheVariants as J
+use Rattle.gft_syntax.specs.declared.reference.PlacedName.{PlacedName}
+use Rattle.gft_syntax.specs.declared.reference.Reference.{Reference}
+use Rattle.gft_syntax.specs.declared.reference.Reference.TheVariants.{Written, Whole as WholeName}
+use Rattle.gft_syntax.specs.declared.reference.Whole.{Whole}
+use Rattle.gft_syntax.specs.declared.term.Term.{Term, out-Term}
+use Rattle.gft_syntax.specs.declared.term.Term.TheOpen as T
+use Rattle.gft_syntax.specs.declared.term.Term.TheFolds.{fold-Term}
+use Rattle.gft_syntax.specs.Terms.{Layer, place_of}
+use Rattle.gft_model.specs.ConcreteTypes.{field_of}
+use Rattle.gft_model.specs.ConcreteTyping.{Spine, for_each}
+use Rattle.gft_model.specs.JudgementTyping.{list_name, name_of, Signature, signature_given}
+use Rattle.gft_model.specs.Refusals.{Moment, refusal}
+use Rattle.gft_model.specs.TermParts.{parts}
+use Rattle.gft_model.specs.Trees.{Printed, printed_step, as_arguments, filled}
+use Rattle.gft_model.specs.Typing.{value_of}
+
+-- a category with its indices, in which ?k stands for the variable of argument k
+pub record Indexed : Type 0 where
+  pub category : List ℕ
+  pub indices : List Tree
+
+-- the type with each variable replaced by its argument
+abbrev pub indexed_at : List Tree → Indexed → Indexed
+indexed_at ts A = record { category = A.category; indices = map (filled (value_of ts)) A.indices }
+
+-- the text of a type, its variables as x1, x2, ..
+abbrev pub index_step : Tree-F.Tree-F Printed → Printed
+index_step (Tree-F.Hole k) = (codes "x" ++ decimal k, false)
+index_step d = printed_step d
+
+abbrev pub indexed_text : Indexed → List ℕ
+indexed_text A = A.category ++ as_arguments (map (fold-Tree Printed index_step) A.indices)
+
+-- the variables of a judgement with their numbers and types, and how many arguments there are so far
+pub record Arguments : Type 0 where
+  pub count : ℕ
+  pub variables : List (List ℕ × (ℕ × Indexed))
+
+abbrev pub no_arguments : Arguments
+no_arguments = record { count = 0; variables = [] }
+
+-- one more argument of the type
+abbrev pub with_argument : Bind → Indexed → Arguments → Arguments
+with_argument (Variable x place) A Γ = record { count = suc Γ.count; variables = (x, (suc Γ.count, A)) ∷ Γ.variables }
+with_argument (Nothing place) A Γ = record { count = suc Γ.count; variables = Γ.variables }
+
+-- one for each variable, or one where none is named
+abbrev pub with_arguments_of : List Bind → Indexed → Arguments → Arguments
+with_arguments_of [] A Γ = record { count = suc Γ.count; variables = Γ.variables }
+with_arguments_of (x ∷ []) A Γ = with_argument x A Γ
+with_arguments_of (x ∷ y ∷ xs) A Γ = with_arguments_of (y ∷ xs) A (with_argument x A Γ)
+
+-- where a term stands: as a type, as the type of an argument, as an index of the application of f, which
+-- is a type or not; as the head of one of these; or in a form that abstract syntax does not have
+pub data Role : Type 0 where
+  type_role : Role
+  argument_role : Role
+  index_role : Bool → Term → Role
+  head_role : Role → Role
+  other_role : Role
+
+-- the role of an application's head, and whether it is a type
+abbrev pub head_of : Role → Role
+head_of (head_role r) = head_role r
+head_of r = head_role r
+
+abbrev pub is_type_role : Role → Bool
+is_type_role type_role = true
+is_type_role argument_role = true
+is_type_role (head_role type_role) = true
+is_type_role (head_role argument_role) = true
+is_type_role r = false
+
+abbrev pub is_index_role : Role → Bool
+is_index_role (index_role t f) = true
+is_index_role (head_role (index_role t f)) = true
+is_index_role r = false
+
+abbrev pub is_head : Role → Bool
+is_head (head_role r) = true
+is_head r = false
+
+-- the role of the argument of an application
+abbrev pub role_after : Role → Term → Role
+role_after type_role f = index_role true f
+role_after argument_role f = index_role true f
+role_after (index_role t g) f = index_role false f
+role_after (head_role type_role) f = index_role true f
+role_after (head_role argument_role) f = index_role true f
+role_after (head_role (index_role t g)) f = index_role false f
+role_after r f = other_role
+
+-- forms of abstract syntax: arrows, applications, names, [C] and literals
+abbrev pub is_abstract_form : Layer → Bool
+is_abstract_form (T.Arrow xs a b place) = true
+is_abstract_form (T.App f a place) = true
+is_abstract_form (T.Var r place) = true
+is_abstract_form (T.ListCat r place) = true
+is_abstract_form (T.Lit t place) = true
+is_abstract_form (T.Num n place) = true
+is_abstract_form d = false
+
+abbrev pub is_literal : Layer → Bool
+is_literal (T.Lit t place) = true
+is_literal (T.Num n place) = true
+is_literal d = false
+
+abbrev pub is_arrow : Layer → Bool
+is_arrow (T.Arrow xs a b place) = true
+is_arrow d = false
+
+abbrev pub is_application : Layer → Bool
+is_application (T.App f a place) = true
+is_application d = false
+
+-- a name, and [C], which is one
+abbrev pub head_name : Layer → Option Reference
+head_name (T.Var r place) = Some r
+head_name (T.ListCat r place) = Some r
+head_name d = None
+
+-- how many arguments a context or the type of a function has
+abbrev pub context_count : List Context → ℕ
+context_count [] = 0
+context_count (c ∷ cs) = length (for_each c.binds c) + context_count cs
+
+-- the judgement of a whole name among entries
+abbrev pub Declares : List FlatJudgement → Whole → Judgement → Type 0
+Declares es w j = (e : FlatJudgement) × Contains es e × (e.whole ≡ w) × (e.judgement ≡ j)
+
+-- the categories and the functions of a module, and which functions it left out of what it inherits
+module _ (cats funs : List FlatJudgement) (LeftOut : Whole → Type 0) where
+  abbrev pub IsCategory : Whole → Type 0
+  IsCategory w = (j : Judgement) × Declares cats w j
+
+  abbrev pub IsFunction : Whole → Type 0
+  IsFunction w = (j : Judgement) × Declares funs w j
+
+  -- the name of a category that is built in
+  abbrev pub IsBuiltIn : Arguments → Reference → Type 0
+  IsBuiltIn Γ r = ((r ≡ Written (codes "Int")) × (field_of (codes "Int") Γ.variables ≡ None))
+      ⊎ ((r ≡ Written (codes "String")) × (field_of (codes "String") Γ.variables ≡ None))
+
+  -- how many indices a category takes, and how many arguments a function or a variable
+  pub data TakesIndices (Γ : Arguments) : Reference → ℕ → Type 0 where
+    of_category : {w : Whole} {n : PlacedName} {cs : List Context} → Declares cats w (J.Cat n cs) → TakesIndices Γ (WholeName w) (context_count cs)
+    of_list : {w : Whole} {n : PlacedName} {r : Reference} {k : ℕ} {p : Place} → Declares cats w (J.ListCat n r k p) → TakesIndices Γ (WholeName w) 0
+    of_built_in : {r : Reference} → IsBuiltIn Γ r → TakesIndices Γ r 0
+
+  pub data TakesArguments : Reference → ℕ → Type 0 where
+    of_function : {w : Whole} {j : Judgement} → Declares funs w j →
+        TakesArguments (WholeName w) (length (signature_given w.name j).arguments)
+    of_variable : {x : List ℕ} → TakesArguments (Written x) 0
+
+  mutual
+    -- a term is the type
+    pub data ReadsType : Arguments → Term → Indexed → Type 0 where
+      indexed : {Γ : Arguments} {e h : Term} {es : List Term} {w : Whole} {As : List Indexed} {ts : List Tree} → Spine e [] h es →
+          head_name (out-Term h) ≡ Some (WholeName w) → HasContext w As → IndicesAre Γ es [] As ts →
+          ReadsType Γ e (record { category = w.name; indices = ts })
+      built_in : {Γ : Arguments} {e : Term} {x : List ℕ} {p : Place} → out-Term e ≡ T.Var (Written x) p → IsBuiltIn Γ (Written x) →
+          ReadsType Γ e (record { category = x; indices = [] })
+
+    -- the types of a context: the arguments so far, those with it, and its types
+    pub data ReadsContext : Arguments → List Context → Arguments → List Indexed → Type 0 where
+      no_context : {Γ : Arguments} → ReadsContext Γ [] Γ []
+      more_context : {Γ Δ : Arguments} {c : Context} {cs : List Context} {A : Indexed} {As : List Indexed} → ReadsType Γ c.of_type A →
+          ReadsContext (with_arguments_of c.binds A Γ) cs Δ As → ReadsContext Γ (c ∷ cs) Δ (for_each c.binds A ++ As)
+
+    -- the types of the indices of a category
+    pub data HasContext : Whole → List Indexed → Type 0 where
+      its_context : {w : Whole} {n : PlacedName} {cs : List Context} {Γ : Arguments} {As : List Indexed} → Declares cats w (J.Cat n cs) →
+          ReadsContext no_arguments cs Γ As → HasContext w As
+      of_a_list : {w : Whole} {n : PlacedName} {r : Reference} {k : ℕ} {p : Place} → Declares cats w (J.ListCat n r k p) → HasContext w []
+
+    -- a term is the type of a function
+    pub data ReadsFunction : Arguments → Term → List Indexed → Indexed → Type 0 where
+      takes : {Γ : Arguments} {e a b : Term} {xs : List Bind} {p : Place} {A B : Indexed} {As : List Indexed} → out-Term e ≡ T.Arrow xs a b p →
+          ReadsType Γ a A → ReadsFunction (with_arguments_of xs A Γ) b As B → ReadsFunction Γ e (for_each xs A ++ As) B
+      gives : {Γ : Arguments} {e : Term} {B : Indexed} → ReadsType Γ e B → ReadsFunction Γ e [] B
+
+    -- the types of a function's arguments and of its result
+    pub data HasSignature : Whole → List Indexed → Indexed → Type 0 where
+      its_type : {w : Whole} {ns : List PlacedName} {t : Term} {As : List Indexed} {B : Indexed} → Declares funs w (J.Fun ns t) →
+          ReadsFunction no_arguments t As B → HasSignature w As B
+      of_list_function : {w : Whole} {n : PlacedName} {r : Reference} {k : ℕ} {p : Place} → Declares funs w (J.ListCat n r k p) →
+          HasSignature w (map (λ C. record { category = C; indices = [] }) (signature_given w.name (J.ListCat n r k p)).arguments)
+          (record { category = list_name (name_of r); indices = [] })
+
+    -- a term is the tree, as an index, and has the type
+    pub data IndexIs : Arguments → Term → Tree → Indexed → Type 0 where
+      variable : {Γ : Arguments} {e : Term} {x : List ℕ} {p : Place} {k : ℕ} {A : Indexed} → out-Term e ≡ T.Var (Written x) p → field_of x Γ.variables ≡ Some (k, A) →
+          IndexIs Γ e (roll-Tree (Tree-F.Hole k)) A
+      number : {Γ : Arguments} {e : Term} {n : ℕ} {p : Place} → out-Term e ≡ T.Num n p →
+          IndexIs Γ e (roll-Tree (Tree-F.Int n)) (record { category = codes "Int"; indices = [] })
+      text : {Γ : Arguments} {e : Term} {s : List ℕ} {p : Place} → out-Term e ≡ T.Lit s p → IsWord s →
+          IndexIs Γ e (roll-Tree (Tree-F.Str s)) (record { category = codes "String"; indices = [] })
+      application : {Γ : Arguments} {e h : Term} {es : List Term} {w : Whole} {p : Place} {As : List Indexed} {B : Indexed} {ts : List Tree} → Spine e [] h es →
+          out-Term h ≡ T.Var (WholeName w) p → HasSignature w As B → IndicesAre Γ es [] As ts →
+          IndexIs Γ e (roll-Tree (Tree-F.App w.name ts)) (indexed_at ts B)
+
+    -- terms are the trees, of the types, of which each is over the trees before it
+    pub data IndicesAre : Arguments → List Term → List Tree → List Indexed → List Tree → Type 0 where
+      no_index : {Γ : Arguments} {before : List Tree} → IndicesAre Γ [] before [] []
+      one_index : {Γ : Arguments} {e : Term} {es : List Term} {t : Tree} {before ts : List Tree} {A : Indexed} {As : List Indexed} → IndexIs Γ e t (indexed_at before A) →
+          IndicesAre Γ es (before ++ t ∷ []) As ts → IndicesAre Γ (e ∷ es) before (A ∷ As) (t ∷ ts)
+
+  -- the type that the next index of the application f must have, where f is a type or not
+  pub data Expects (Γ : Arguments) : Bool → Term → Indexed → Type 0 where
+    by_category : {f h : Term} {es : List Term} {w : Whole} {As : List Indexed} {A : Indexed} {ts : List Tree} → Spine f [] h es →
+        head_name (out-Term h) ≡ Some (WholeName w) → HasContext w As → IndicesAre Γ es [] (take (length es) As) ts →
+        slice_get As (length es) ≡ Some A → Expects Γ true f (indexed_at ts A)
+    by_function : {f h : Term} {es : List Term} {w : Whole} {As : List Indexed} {A B : Indexed} {ts : List Tree} → Spine f [] h es →
+        head_name (out-Term h) ≡ Some (WholeName w) → HasSignature w As B → IndicesAre Γ es [] (take (length es) As) ts →
+        slice_get As (length es) ≡ Some A → Expects Γ false f (indexed_at ts A)
+
+  -- a term of the judgement, where it stands
+  pub data StandsIn (j : Judgement) : Moment → Arguments → Term → Role → Type 0 where
+    function_type : {ns : List PlacedName} {t : Term} → j ≡ J.Fun ns t → StandsIn j (1 ∷ []) no_arguments t type_role
+    in_context : {n : PlacedName} (before : List Context) (c : Context) (after : List Context) {Γ : Arguments} {As : List Indexed} →
+        j ≡ J.Cat n (before ++ c ∷ after) → ReadsContext no_arguments before Γ As →
+        StandsIn j (suc (length before) ∷ []) Γ c.of_type argument_role
+    argument : {path : Moment} {Γ : Arguments} {e a b : Term} {r : Role} {xs : List Bind} {p : Place} → StandsIn j path Γ e r →
+        is_type_role r ≡ true → out-Term e ≡ T.Arrow xs a b p → StandsIn j (path ++ 1 ∷ []) Γ a argument_role
+    result : {path : Moment} {Γ : Arguments} {e a b : Term} {r : Role} {xs : List Bind} {p : Place} {A : Indexed} → StandsIn j path Γ e r →
+        is_type_role r ≡ true → out-Term e ≡ T.Arrow xs a b p → ReadsType Γ a A →
+        StandsIn j (path ++ 2 ∷ []) (with_arguments_of xs A Γ) b type_role
+    head : {path : Moment} {Γ : Arguments} {e f a : Term} {r : Role} {p : Place} → StandsIn j path Γ e r → out-Term e ≡ T.App f a p →
+        StandsIn j (path ++ 1 ∷ []) Γ f (head_of r)
+    index : {path : Moment} {Γ : Arguments} {e f a : Term} {r : Role} {p : Place} → StandsIn j path Γ e r → out-Term e ≡ T.App f a p →
+        StandsIn j (path ++ 2 ∷ []) Γ a (role_after r f)
+    elsewhere : {path : Moment} {Γ : Arguments} {e : Term} {r : Role} (k : ℕ) {a : _} → StandsIn j path Γ e r →
+        is_application (out-Term e) ≡ false → (is_type_role r ≡ false) ⊎ (is_arrow (out-Term e) ≡ false) →
+        slice_get (parts (out-Term e)) k ≡ Some a → StandsIn j (path ++ suc k ∷ []) Γ a.part other_role
+
+  abbrev pub at_term : Rule → Term → List (List ℕ) → Refusal
+  at_term rule e names = refusal rule (place_of e) names
+
+  -- what is broken in the types of an abstract judgement
+  pub data BreaksAbstract (j : Judgement) : Moment → Refusal → Type 0 where
+    takes_function : {path : Moment} {Γ : Arguments} {e : Term} → StandsIn j path Γ e argument_role → is_arrow (out-Term e) ≡ true →
+        BreaksAbstract j path (at_term R.HigherOrder e [])
+    lacking_form : {path : Moment} {Γ : Arguments} {e : Term} {r : Role} → StandsIn j path Γ e r → is_abstract_form (out-Term e) ≡ false →
+        BreaksAbstract j path (at_term R.NotAbstract e [])
+    no_head : {path : Moment} {Γ : Arguments} {e : Term} {r : Role} → StandsIn j path Γ e (head_role r) →
+        (is_arrow (out-Term e) ≡ true) ⊎ (is_literal (out-Term e) ≡ true) → BreaksAbstract j path (at_term R.NotAbstract e [])
+    literal_type : {path : Moment} {Γ : Arguments} {e : Term} {r : Role} → StandsIn j path Γ e r → is_type_role r ≡ true →
+        is_literal (out-Term e) ≡ true → BreaksAbstract j path (at_term R.NotAbstract e [])
+    arrow_index : {path : Moment} {Γ : Arguments} {e : Term} {r : Role} → StandsIn j path Γ e r → is_index_role r ≡ true →
+        is_arrow (out-Term e) ≡ true → BreaksAbstract j path (at_term R.NotAbstract e [])
+    list_index : {path : Moment} {Γ : Arguments} {e : Term} {r : Role} {n : Reference} {p : Place} → StandsIn j path Γ e r → is_index_role r ≡ true →
+        out-Term e ≡ T.ListCat n p → BreaksAbstract j path (at_term R.NotAbstract e [])
+    long_text_index : {path : Moment} {Γ : Arguments} {e : Term} {r : Role} {s : List ℕ} {p : Place} → StandsIn j path Γ e r → is_index_role r ≡ true →
+        out-Term e ≡ T.Lit s p → ¬ (IsWord s) → BreaksAbstract j path (at_term R.NotAbstract e [])
+    no_function_index : {path : Moment} {Γ : Arguments} {e : Term} {r : Role} {n : Reference} {p : Place} → StandsIn j path Γ e r → is_index_role r ≡ true →
+        out-Term e ≡ T.Var n p → ((w : Whole) × (n ≡ WholeName w) × ¬ (IsFunction w) × ¬ (LeftOut w)) ⊎ IsBuiltIn Γ n →
+        BreaksAbstract j path (at_term R.NotAbstract e [])
+    left_out_index : {path : Moment} {Γ : Arguments} {e : Term} {r : Role} {w : Whole} {p : Place} → StandsIn j path Γ e r → is_index_role r ≡ true →
+        out-Term e ≡ T.Var (WholeName w) p → ¬ (IsFunction w) → LeftOut w → BreaksAbstract j path (at_term R.Unknown e (w.name ∷ []))
+    no_category : {path : Moment} {Γ : Arguments} {e : Term} {r : Role} {n : Reference} → StandsIn j path Γ e r → is_type_role r ≡ true →
+        head_name (out-Term e) ≡ Some n → ¬ ((w : Whole) × (n ≡ WholeName w) × IsCategory w) → ¬ (IsBuiltIn Γ n) →
+        BreaksAbstract j path (at_term R.UnknownCat e (name_of n ∷ []))
+    wrong_indices : {path : Moment} {Γ : Arguments} {e h : Term} {r : Role} {es : List Term} {n : Reference} {k : ℕ} → StandsIn j path Γ e r →
+        is_type_role r ≡ true → is_head r ≡ false → Spine e [] h es → head_name (out-Term h) ≡ Some n → TakesIndices Γ n k → length es ≢ k →
+        BreaksAbstract j path (at_term R.Arity e (name_of n ∷ []))
+    wrong_arguments : {path : Moment} {Γ : Arguments} {e h : Term} {r : Role} {es : List Term} {n : Reference} {p : Place} {k : ℕ} → StandsIn j path Γ e r →
+        is_index_role r ≡ true → is_head r ≡ false → Spine e [] h es → out-Term h ≡ T.Var n p → TakesArguments n k → length es ≢ k →
+        BreaksAbstract j path (at_term R.Arity e (name_of n ∷ []))
+    index_of_another_type : {path : Moment} {Γ : Arguments} {e f : Term} {is_type : Bool} {t : Tree} {A B : Indexed} → StandsIn j path Γ e (index_role is_type f) →
+        Expects Γ is_type f A → IndexIs Γ e t B → A ≢ B → BreaksAbstract j path (at_term R.IndexType e (indexed_text A ∷ indexed_text B ∷ []))
+    list_of_no_category : {n : PlacedName} {r : Reference} {k : ℕ} {p : Place} → j ≡ J.ListCat n r k p →
+        ¬ ((w : Whole) × (r ≡ WholeName w) × IsCategory w) → ¬ (IsBuiltIn no_arguments r) →
+        BreaksAbstract j (0 ∷ []) (refusal R.UnknownCat n.place (n.name ∷ []))
+    list_of_indexed : {n : PlacedName} {r : Reference} {k m : ℕ} {p : Place} → j ≡ J.ListCat n r k p → TakesIndices no_arguments r (suc m) →
+        BreaksAbstract j (0 ∷ []) (refusal R.Arity n.place (n.name ∷ []))

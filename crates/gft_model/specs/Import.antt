@@ -1,0 +1,233 @@
+-- An import of sources: which files are loaded, and what is broken in them, in the order of the import.
+use Rattle.std.specs.Prelude.{◌≡◌, ◌↔◌, ℕ, ◌-◌, ◌<◌, ◌≤◌, List, [], ◌∷◌, ◌++◌, map, flat_map, filter, take, drop, length, Bool, true, false, ◌==◌, bytes_eq, codes, Contains, Option, Some, None, ◌⊎◌, ◌≢◌, slice_get, if◌then◌else◌}
+use Rattle.std.specs.List.{list_any}
+use Rattle.gft_rules.specs.declared.refusal.Refusal.{Refusal}
+use Rattle.gft_rules.specs.declared.rule.Rule.TheVariants as R
+use Rattle.gft_syntax.specs.declared.flat.Flat.{Flat}
+use Rattle.gft_syntax.specs.declared.flat.FlatConcrete.{FlatConcrete}
+use Rattle.gft_syntax.specs.declared.flat.FlatJudgement.{FlatJudgement}
+use Rattle.gft_syntax.specs.declared.linear.Typed.{Typed}
+use Rattle.gft_syntax.specs.declared.module.Header.{Header}
+use Rattle.gft_syntax.specs.declared.module.Header.TheVariants.{Abstract, Resource, Interface, Instance, Concrete, Incomplete}
+use Rattle.gft_syntax.specs.declared.module.Module.{Module}
+use Rattle.gft_syntax.specs.declared.module.Rest.{Rest}
+use Rattle.gft_syntax.specs.declared.module.Rest.TheVariants.{Own, Inherits, With}
+use Rattle.gft_syntax.specs.declared.reference.PlacedName.{PlacedName}
+use Rattle.gft_syntax.specs.declared.reference.Whole.{Whole}
+use Rattle.gft_syntax.specs.declared.token.SourceToken.{SourceToken}
+use Rattle.gft_model.specs.AbstractFaults.{BreaksAbstract}
+use Rattle.gft_model.specs.CompileFaults.{BreaksCompiling}
+use Rattle.gft_model.specs.Flats.{AreExactly, HasEntry, HasSomewhere, categories, functions, parameters, opers, linearizations}
+use Rattle.gft_model.specs.HeaderFaults.{BreaksHeader, Redefines, inherited_at, opened_at, restricted_of}
+use Rattle.gft_model.specs.Items.{items_of}
+use Rattle.gft_model.specs.JudgementOrder.{Turns, IsListed, AreEntries, typed_again, Listing}
+use Rattle.gft_model.specs.JudgementTyping.{IsTyped}
+use Rattle.gft_model.specs.ModuleGrammar.{SpellsModule}
+use Rattle.gft_model.specs.Modules.{header_name, module_named, opened_of}
+use Rattle.gft_model.specs.NameFaults.{AreConstructors, BreaksNames, abstract_name}
+use Rattle.gft_model.specs.Refusals.{Moment, ByPlace, IsFirst, refusal, placeless}
+use Rattle.gft_model.specs.Source.{Tokens}
+use Rattle.gft_model.specs.SyntaxFaults.{BreaksSyntax}
+use Rattle.gft_model.specs.TokenFaults.{BreaksTokens}
+use Rattle.gft_model.specs.TypeFaults.{BreaksTypes}
+
+-- limits: bytes of a source, modules of an import, categories
+abbrev pub most_bytes : ℕ
+most_bytes = 4194304
+
+abbrev pub most_modules : ℕ
+most_modules = 256
+
+abbrev pub most_categories : ℕ
+most_categories = 16384
+
+-- what a store holds: the bytes of each file name that it has
+abbrev pub Files : Type 0
+Files = List ℕ → Option (List ℕ)
+
+-- the folder of a file name is its part up to and with the last slash
+abbrev pub folder_of : List ℕ → List ℕ
+folder_of [] = []
+folder_of (c ∷ cs) = if list_any (λ d. d == 47) (c ∷ cs) then c ∷ folder_of cs else []
+
+-- the base name is the rest without its ending .gf; and the file of a module in a folder
+abbrev pub base_of : List ℕ → List ℕ
+base_of file = let rest = drop (length (folder_of file)) file in take (length rest - 3) rest
+
+abbrev pub file_in : List ℕ → List ℕ → List ℕ
+file_in folder M = folder ++ M ++ codes ".gf"
+
+-- the modules that a header names, in the order of the text
+abbrev pub header_mentions : Header → List PlacedName
+header_mentions (Instance n i) = i ∷ []
+header_mentions (Concrete n a) = a ∷ []
+header_mentions (Incomplete n a) = a ∷ []
+header_mentions h = []
+
+abbrev pub substitution_mentions : Rest → List PlacedName
+substitution_mentions (With hs f ss b) = flat_map (λ s. s.interface ∷ s.instance ∷ []) ss
+substitution_mentions r = []
+
+abbrev pub mentions : Module → List PlacedName
+mentions m =
+    header_mentions m.header ++ map inherited_at (restricted_of m.rest) ++ substitution_mentions m.rest ++ map opened_at (opened_of m)
+
+-- the files that are loaded, in the order of their numbers, and the modules whose loading is complete, in
+-- that order
+pub record Loaded : Type 0 where
+  pub files : List (List ℕ)
+  pub modules : List Module
+
+-- loading goes on, or is refused
+pub data Outcome : Type 0 where
+  loaded : Loaded → Outcome
+  refused : Refusal → Outcome
+
+abbrev pub IsLoaded : Loaded → List ℕ → Type 0
+IsLoaded s M = (m : Module) × (module_named s.modules M ≡ Some m)
+
+module _ (files : Files) where
+  -- the file is read as a module of that name, where it is the next to be loaded
+  pub data Reads (s : Loaded) (file M : List ℕ) : Module → Type 0 where
+    reads : {bytes : List ℕ} {ts : List SourceToken} {m : Module} → files file ≡ Some bytes → length bytes ≤ most_bytes →
+        Tokens (length s.files) bytes ts → SpellsModule ts m → (header_name m.header).name ≡ M → Reads s file M m
+
+  -- why it is not
+  pub data Fails (s : Loaded) (file M : List ℕ) : Refusal → Type 0 where
+    missing : files file ≡ None → Fails s file M (placeless R.MissingFile (file ∷ []))
+    too_long : {bytes : List ℕ} → files file ≡ Some bytes → most_bytes < length bytes → Fails s file M (placeless R.FileTooLong (file ∷ []))
+    bad_characters : {bytes : List ℕ} {r : Refusal} → files file ≡ Some bytes → length bytes ≤ most_bytes →
+        IsFirst (ByPlace (BreaksTokens (length s.files) bytes)) r → Fails s file M r
+    bad_slices : {bytes : List ℕ} {ts : List SourceToken} {r : Refusal} → files file ≡ Some bytes → length bytes ≤ most_bytes →
+        Tokens (length s.files) bytes ts → IsFirst (BreaksSyntax (length s.files) ts) r → Fails s file M r
+    misnamed : {bytes : List ℕ} {ts : List SourceToken} {m : Module} → files file ≡ Some bytes → length bytes ≤ most_bytes →
+        Tokens (length s.files) bytes ts → SpellsModule ts m → (header_name m.header).name ≢ M →
+        Fails s file M (refusal R.NameMismatch (header_name m.header).place ((header_name m.header).name ∷ []))
+
+  mutual
+    -- a module is loaded from a folder, where others wait for it
+    pub data Loads : List ℕ → List (List ℕ) → Loaded → List ℕ → Outcome → Type 0 where
+      fails : {folder M : List ℕ} {waiting : List (List ℕ)} {s : Loaded} {r : Refusal} → Fails s (file_in folder M) M r →
+          Loads folder waiting s M (refused r)
+      needs_refused : {folder M : List ℕ} {waiting : List (List ℕ)} {s : Loaded} {m : Module} {r : Refusal} → Reads s (file_in folder M) M m →
+          LoadsAll folder (M ∷ waiting) (record { files = s.files ++ file_in folder M ∷ []; modules = s.modules }) (mentions m) (refused r) →
+          Loads folder waiting s M (refused r)
+      complete : {folder M : List ℕ} {waiting : List (List ℕ)} {s t : Loaded} {m : Module} → Reads s (file_in folder M) M m →
+          LoadsAll folder (M ∷ waiting) (record { files = s.files ++ file_in folder M ∷ []; modules = s.modules }) (mentions m) (loaded t) →
+          Loads folder waiting s M (loaded (record { files = t.files; modules = t.modules ++ m ∷ [] }))
+
+    -- the modules that a header names, in their order, each once
+    pub data LoadsAll : List ℕ → List (List ℕ) → Loaded → List PlacedName → Outcome → Type 0 where
+      no_more : {folder : List ℕ} {waiting : List (List ℕ)} {s : Loaded} → LoadsAll folder waiting s [] (loaded s)
+      loaded_before : {folder : List ℕ} {waiting : List (List ℕ)} {s : Loaded} {n : PlacedName} {ns : List PlacedName} {o : Outcome} →
+          IsLoaded s n.name → LoadsAll folder waiting s ns o → LoadsAll folder waiting s (n ∷ ns) o
+      waits_for_it : {folder : List ℕ} {waiting : List (List ℕ)} {s : Loaded} {n : PlacedName} {ns : List PlacedName} →
+          Contains waiting n.name → LoadsAll folder waiting s (n ∷ ns) (refused (refusal R.ModuleCycle n.place (n.name ∷ [])))
+      too_many : {folder : List ℕ} {waiting : List (List ℕ)} {s : Loaded} {n : PlacedName} {ns : List PlacedName} → ¬ (IsLoaded s n.name) →
+          ¬ (Contains waiting n.name) → length s.files ≡ most_modules → LoadsAll folder waiting s (n ∷ ns) (refused (placeless R.TooManyModules []))
+      next_refused : {folder : List ℕ} {waiting : List (List ℕ)} {s : Loaded} {n : PlacedName} {ns : List PlacedName} {r : Refusal} →
+          ¬ (IsLoaded s n.name) → ¬ (Contains waiting n.name) → length s.files < most_modules → Loads folder waiting s n.name (refused r) →
+          LoadsAll folder waiting s (n ∷ ns) (refused r)
+      next_loaded : {folder : List ℕ} {waiting : List (List ℕ)} {s t : Loaded} {n : PlacedName} {ns : List PlacedName} {o : Outcome} →
+          ¬ (IsLoaded s n.name) → ¬ (Contains waiting n.name) → length s.files < most_modules → Loads folder waiting s n.name (loaded t) →
+          LoadsAll folder waiting t ns o → LoadsAll folder waiting s (n ∷ ns) o
+
+  -- the named sources, in order, each module once
+  pub data LoadsNamed : Loaded → List (List ℕ) → Outcome → Type 0 where
+    none_named : {s : Loaded} → LoadsNamed s [] (loaded s)
+    known : {s : Loaded} {file : List ℕ} {rest : List (List ℕ)} {o : Outcome} → IsLoaded s (base_of file) → LoadsNamed s rest o →
+        LoadsNamed s (file ∷ rest) o
+    no_room : {s : Loaded} {file : List ℕ} {rest : List (List ℕ)} → ¬ (IsLoaded s (base_of file)) → length s.files ≡ most_modules →
+        LoadsNamed s (file ∷ rest) (refused (placeless R.TooManyModules []))
+    named_refused : {s : Loaded} {file : List ℕ} {rest : List (List ℕ)} {r : Refusal} → ¬ (IsLoaded s (base_of file)) →
+        length s.files < most_modules → Loads (folder_of file) [] s (base_of file) (refused r) → LoadsNamed s (file ∷ rest) (refused r)
+    named_loaded : {s t : Loaded} {file : List ℕ} {rest : List (List ℕ)} {o : Outcome} → ¬ (IsLoaded s (base_of file)) →
+        length s.files < most_modules → Loads (folder_of file) [] s (base_of file) (loaded t) → LoadsNamed t rest o → LoadsNamed s (file ∷ rest) o
+
+module _ (mods : List Module) where
+  -- what judgements of a module may name, and for a concrete one what its abstract module has
+  pub record IsView (m : Module) (flat : Flat) : Type 0 where
+    pub params : AreExactly mods flat.params (HasSomewhere mods parameters ((header_name m.header).name ∷ []))
+    pub opers_of : AreExactly mods flat.opers (HasSomewhere mods opers ((header_name m.header).name ∷ []))
+    pub without_abstract : abstract_name m.header ≡ None → (flat.cats ≡ []) × (flat.funs ≡ [])
+    pub cats : (A : List ℕ) → abstract_name m.header ≡ Some A → AreExactly mods flat.cats (HasEntry mods categories A)
+    pub funs : (A : List ℕ) → abstract_name m.header ≡ Some A → AreExactly mods flat.funs (HasEntry mods functions A)
+    pub language : List FlatJudgement
+    pub concretes : flat.concretes ≡ record { name = (header_name m.header).name; judgements = language } ∷ []
+    pub has : AreExactly mods language (HasEntry mods linearizations (header_name m.header).name)
+
+  -- all judgements of a view
+  abbrev pub entries_of : Flat → List FlatJudgement
+  entries_of flat = flat.cats ++ flat.funs ++ flat.params ++ flat.opers ++ flat_map (λ c. c.judgements) flat.concretes
+
+  -- the judgements of a module in the order in which they are typed: copies and own ones by their turns,
+  -- then those that are inherited, where they are typed again
+  pub record HasOrder (M : List ℕ) (es funs : List FlatJudgement) (order again : List FlatJudgement) : Type 0 where
+    pub inherited : Listing
+    pub copies : Listing
+    pub owned : Listing
+    pub listed : IsListed mods M inherited copies owned
+    pub own_entries : List FlatJudgement
+    pub are_own : AreEntries mods (copies ++ owned) own_entries
+    pub are_inherited : AreEntries mods inherited again
+    pub turns : Turns es funs own_entries [] own_entries order
+
+  -- a function that a module leaves out of what it inherits
+  abbrev pub LeftOut : List FlatJudgement → Whole → Type 0
+  LeftOut funs w = ((e : FlatJudgement) → Contains funs e → e.whole ≢ w)
+      × ((e : FlatJudgement) × HasEntry mods functions w.«module» e × (e.whole ≡ w))
+
+  -- a kind of module that is typed where it stands, not only in instances
+  pub data IsTypedHere : Header → Type 0 where
+    resource : {n : PlacedName} → IsTypedHere (Resource n)
+    instance : {n i : PlacedName} → IsTypedHere (Instance n i)
+    concrete : {n a : PlacedName} → IsTypedHere (Concrete n a)
+
+  -- what is broken in a module: its header, names declared twice, names, then types
+  pub data BreaksModule (named : Bool) (m : Module) : Moment → Refusal → Type 0 where
+    in_header : {at : Moment} {r : Refusal} → BreaksHeader mods named m at r → BreaksModule named m (0 ∷ at) r
+    twice : {at : Moment} {r : Refusal} → Redefines m at r → BreaksModule named m (1 ∷ at) r
+    in_names : {at : Moment} {r : Refusal} (constructors : List ℕ → Bool) → AreConstructors mods m constructors → BreaksNames mods m constructors at r →
+        BreaksModule named m (2 ∷ at) r
+    in_abstract : {n : PlacedName} {cats funs order again : List FlatJudgement} {k : ℕ} {e : FlatJudgement} {at : Moment} {r : Refusal} →
+        m.header ≡ Abstract n → AreExactly mods cats (HasEntry mods categories n.name) → AreExactly mods funs (HasEntry mods functions n.name) →
+        HasOrder n.name (cats ++ funs) [] order again → slice_get (order ++ again) k ≡ Some e →
+        BreaksAbstract cats funs (LeftOut funs) e.judgement at r → BreaksModule named m (3 ∷ k ∷ at) r
+    in_types : {flat : Flat} {order again : List FlatJudgement} {k : ℕ} {e : FlatJudgement} {at : Moment} {r : Refusal} → IsTypedHere m.header →
+        IsView m flat → HasOrder (header_name m.header).name (entries_of flat) flat.funs order again →
+        slice_get (order ++ typed_again again) k ≡ Some e →
+        BreaksTypes flat (header_name m.header).name e.whole e.judgement at r → BreaksModule named m (3 ∷ k ∷ at) r
+
+-- what typing gives stands in the grammar, for each judgement that has a type
+pub record AreTyped (flat : Flat) : Type 0 where
+  pub numbers : length flat.typed ≡ length (items_of flat)
+  pub typings : (k : ℕ) (t : Typed) → slice_get flat.typed k ≡ Some (Some t) ↔ IsTyped flat k t.term t.ctype
+
+-- the abstract module of a named source
+pub data AbstractOf (mods : List Module) (file : List ℕ) : List ℕ → Type 0 where
+  itself : {m : Module} {n : PlacedName} → module_named mods (base_of file) ≡ Some m → m.header ≡ Abstract n → AbstractOf mods file n.name
+  of_concrete : {m : Module} {n a : PlacedName} → module_named mods (base_of file) ≡ Some m → m.header ≡ Concrete n a → AbstractOf mods file a.name
+
+-- the module is a named source
+abbrev pub is_named : List (List ℕ) → Module → Bool
+is_named names m = list_any (λ file. bytes_eq (base_of file) (header_name m.header).name) names
+
+abbrev pub nothing_loaded : Loaded
+nothing_loaded = record { files = []; modules = [] }
+
+-- what is broken in an import of the named sources, in order: loading, each module in turn, the number of
+-- categories, each language, and abstract modules that are not one
+pub data BreaksImport (files : Files) (names : List (List ℕ)) : Moment → Refusal → Type 0 where
+  in_loading : {r : Refusal} → LoadsNamed files nothing_loaded names (refused r) → BreaksImport files names (0 ∷ []) r
+  in_module : {s : Loaded} {i : ℕ} {m : Module} {at : Moment} {r : Refusal} → LoadsNamed files nothing_loaded names (loaded s) →
+      slice_get s.modules i ≡ Some m → BreaksModule s.modules (is_named names m) m at r → BreaksImport files names (1 ∷ i ∷ at) r
+  too_many_categories : {s : Loaded} {file A : List ℕ} {cats : List FlatJudgement} → LoadsNamed files nothing_loaded names (loaded s) →
+      Contains names file → AbstractOf s.modules file A → AreExactly s.modules cats (HasEntry s.modules categories A) →
+      most_categories < length cats → BreaksImport files names (2 ∷ []) (placeless R.TooManyCategories [])
+  in_language : {s : Loaded} {i : ℕ} {file : List ℕ} {m : Module} {n a : PlacedName} {flat : Flat} {at : Moment} {r : Refusal} →
+      LoadsNamed files nothing_loaded names (loaded s) → slice_get names i ≡ Some file → module_named s.modules (base_of file) ≡ Some m →
+      m.header ≡ Concrete n a → IsView s.modules m flat → AreTyped flat → BreaksCompiling flat n.name at r →
+      BreaksImport files names (3 ∷ i ∷ at) r
+  abstracts_differ : {s : Loaded} {file A B : List ℕ} {rest : List (List ℕ)} (i : ℕ) {other : List ℕ} → LoadsNamed files nothing_loaded names (loaded s) →
+      names ≡ file ∷ rest → slice_get rest i ≡ Some other → AbstractOf s.modules file A → AbstractOf s.modules other B → A ≢ B →
+      BreaksImport files names (4 ∷ i ∷ []) (placeless R.AbstractsDiffer (file ∷ other ∷ []))

@@ -1,0 +1,132 @@
+-- The order in which the judgements of a module are typed.
+use Rattle.std.specs.Prelude.{◌≡◌, ℕ, suc, List, [], ◌∷◌, ◌++◌, map, flat_map, filter, Bool, true, false, not, bytes_eq, Contains, Option, Some, None}
+use Rattle.std.specs.List.{list_any}
+use Rattle.gft_syntax.specs.declared.flat.FlatJudgement.{FlatJudgement}
+use Rattle.gft_syntax.specs.declared.judgement.Judgement.{Judgement}
+use Rattle.gft_syntax.specs.declared.judgement.Judgement.TheVariants as J
+use Rattle.gft_syntax.specs.declared.judgement.Keyword.{Keyword}
+use Rattle.gft_syntax.specs.declared.judgement.Keyword.TheVariants as K
+use Rattle.gft_syntax.specs.declared.module.Body.{Body}
+use Rattle.gft_syntax.specs.declared.module.Header.TheVariants.{Instance}
+use Rattle.gft_syntax.specs.declared.module.Inherited.{Inherited}
+use Rattle.gft_syntax.specs.declared.module.Module.{Module}
+use Rattle.gft_syntax.specs.declared.module.Rest.TheVariants.{With}
+use Rattle.gft_syntax.specs.declared.module.Substitution.{Substitution}
+use Rattle.gft_syntax.specs.declared.reference.PlacedName.{PlacedName}
+use Rattle.gft_syntax.specs.declared.reference.Whole.{Whole}
+use Rattle.gft_model.specs.Flats.{IsEntry}
+use Rattle.gft_model.specs.HeaderFaults.{sort_of}
+use Rattle.gft_model.specs.JudgementTyping.{list_name, Signature, signature_in}
+use Rattle.gft_model.specs.Modules.{Is, Writes, OwnName, Declared, own, copy, inherited_of, inherited_name, lets_through, judgements_of, declared_names, names_of, is_undefined, main_name}
+use Rattle.gft_model.specs.Resting.{named_by, names_in}
+use Rattle.gft_model.specs.TermParts.{judgement_parts}
+
+-- the whole names in a judgement
+abbrev pub list_names : Judgement → List Whole
+list_names (J.ListCat c r k place) = named_by r
+list_names j = []
+
+abbrev pub names_within : Judgement → List Whole
+names_within j = list_names j ++ flat_map (λ p. names_in p.part) (judgement_parts j)
+
+-- the whole names by which terms name a judgement; they name no linearization
+abbrev pub answered : Option Keyword → FlatJudgement → List Whole
+answered None e = map (λ x. record { «module» = e.whole.«module»; name = x }) (declared_names e.judgement)
+answered (Some k) e = []
+
+-- a linearization needs the linearization type of a category
+pub data NeedsType (funs : List FlatJudgement) (e : FlatJudgement) : List ℕ → Type 0 where
+  of_argument : {s : Signature} {C : List ℕ} → sort_of e.judgement ≡ Some K.Lin → signature_in funs e.whole.name ≡ Some s →
+      Contains s.arguments C → NeedsType funs e C
+  of_result : {s : Signature} → sort_of e.judgement ≡ Some K.Lin → signature_in funs e.whole.name ≡ Some s → NeedsType funs e s.result
+  of_lindef : sort_of e.judgement ≡ Some K.Lindef → NeedsType funs e e.whole.name
+  of_linref : sort_of e.judgement ≡ Some K.Linref → NeedsType funs e e.whole.name
+
+-- among judgements, one rests on another: it names it, needs it, or rests on what does
+pub data RestsOn (es funs : List FlatJudgement) : FlatJudgement → FlatJudgement → Type 0 where
+  by_name : {e f : FlatJudgement} {w : Whole} → Contains es e → Contains es f → Contains (names_within e.judgement) w →
+      Contains (answered (sort_of f.judgement) f) w → RestsOn es funs e f
+  by_lincat : {e f : FlatJudgement} {C : List ℕ} → Contains es e → Contains es f → NeedsType funs e C → sort_of f.judgement ≡ Some K.Lincat →
+      f.whole.name ≡ C → RestsOn es funs e f
+  through : {e f g : FlatJudgement} → RestsOn es funs e f → RestsOn es funs f g → RestsOn es funs e g
+
+-- those of the judgements that one rests on and that do not rest on it, in the same order
+pub data Before (es funs : List FlatJudgement) (e : FlatJudgement) : List FlatJudgement → List FlatJudgement → Type 0 where
+  none : Before es funs e [] []
+  needed : {f : FlatJudgement} {fs ns : List FlatJudgement} → RestsOn es funs e f → ¬ (RestsOn es funs f e) → Before es funs e fs ns →
+      Before es funs e (f ∷ fs) (f ∷ ns)
+  not_needed : {f : FlatJudgement} {fs ns : List FlatJudgement} → ¬ (RestsOn es funs e f × ¬ (RestsOn es funs f e)) → Before es funs e fs ns →
+      Before es funs e (f ∷ fs) ns
+
+-- the turns of judgements where some are typed already: at the turn of each come first, in the same way,
+-- those that it rests on and that do not rest on it
+pub data Turns (es funs list : List FlatJudgement) : List FlatJudgement → List FlatJudgement → List FlatJudgement → Type 0 where
+  no_turn : {typed : List FlatJudgement} → Turns es funs list typed [] []
+  typed_already : {typed rest order : List FlatJudgement} {e : FlatJudgement} → Contains typed e → Turns es funs list typed rest order →
+      Turns es funs list typed (e ∷ rest) order
+  its_turn : {typed rest first later needed : List FlatJudgement} {e : FlatJudgement} → ¬ (Contains typed e) → Before es funs e list needed →
+      Turns es funs list typed needed first → Turns es funs list (typed ++ first ++ e ∷ []) rest later →
+      Turns es funs list typed (e ∷ rest) (first ++ e ∷ later)
+
+-- the names under which a judgement is typed: a parameter type, a list category and an overload once
+abbrev pub typed_names : Judgement → List (List ℕ)
+typed_names (J.ListCat n r k place) = list_name n.name ∷ []
+typed_names (J.Param n cs) = n.name ∷ []
+typed_names j = declared_names j
+
+-- judgements under their names, the first being that number of the module's own
+abbrev pub Listing : Type 0
+Listing = List (List ℕ × Declared)
+
+abbrev pub own_listing : List ℕ → ℕ → List Judgement → Listing
+own_listing M k [] = []
+own_listing M k (j ∷ js) = map (λ x. (x, own M k)) (typed_names j) ++ own_listing M (suc k) js
+
+abbrev pub copied : List ℕ → Listing → Listing
+copied M es = map (λ e. (e.0, copy M e.1)) es
+
+module _ (mods : List Module) where
+  -- what an instance keeps of its interface's judgements, in their order
+  pub data Kept (m : Module) : Listing → Listing → Type 0 where
+    nothing : Kept m [] []
+    kept : {x : List ℕ} {d : Declared} {j : Judgement} {es ks : Listing} → Writes mods d j → is_undefined j ≡ false →
+        ¬ (OwnName mods m (main_name j x)) → Kept m es ks → Kept m ((x, d) ∷ es) ((x, d) ∷ ks)
+    dropped : {x : List ℕ} {d : Declared} {es ks : Listing} →
+        ¬ ((j : Judgement) × Writes mods d j × (is_undefined j ≡ false) × ¬ (OwnName mods m (main_name j x))) → Kept m es ks →
+        Kept m ((x, d) ∷ es) ks
+
+  mutual
+    -- what a module has, in order: inherited, then copies, then its own; and these three lists
+    pub data IsListed : List ℕ → Listing → Listing → Listing → Type 0 where
+      lists : {M : List ℕ} {m : Module} {is cs : Listing} → Is mods M m → Inherits (inherited_of m.rest) is → Copies M m cs →
+          IsListed M is cs (own_listing M 0 (judgements_of m))
+
+    pub data Inherits : List Inherited → Listing → Type 0 where
+      no_module : Inherits [] []
+      from_module : {h : Inherited} {hs : List Inherited} {is cs os rest : Listing} → IsListed (inherited_name h) is cs os → Inherits hs rest →
+          Inherits (h ∷ hs) (filter (λ e. lets_through h e.0) (is ++ cs ++ os) ++ rest)
+
+    pub data Copies : List ℕ → Module → Listing → Type 0 where
+      of_interface : {M : List ℕ} {m : Module} {n i : PlacedName} {is cs os ks : Listing} → m.header ≡ Instance n i → IsListed i.name is cs os → Kept m (is ++ cs ++ os) ks →
+          Copies M m (copied M ks)
+      of_functor : {M : List ℕ} {m : Module} {hs : List Inherited} {f : Inherited} {ss : List Substitution} {b : Option Body} {is cs os : Listing} → m.rest ≡ With hs f ss b →
+          IsListed (inherited_name f) is cs os → Copies M m (copied M (filter (λ e. lets_through f e.0) (is ++ cs ++ os)))
+      no_copies : {M : List ℕ} {m : Module} → ((n i : PlacedName) → ¬ (m.header ≡ Instance n i)) →
+          ((hs : List Inherited) (f : Inherited) (ss : List Substitution) (b : Option Body) → ¬ (m.rest ≡ With hs f ss b)) → Copies M m []
+
+  -- the judgements of a listing with their names replaced, but for flags
+  pub data AreEntries : Listing → List FlatJudgement → Type 0 where
+    no_entry : AreEntries [] []
+    one_entry : {x : List ℕ} {d : Declared} {e : FlatJudgement} {ls : Listing} {es : List FlatJudgement} → IsEntry mods x d e → AreEntries ls es →
+        AreEntries ((x, d) ∷ ls) (e ∷ es)
+
+-- inherited linearizations are typed again: lincats, lindefs, linrefs, then lins
+abbrev pub is_of : Keyword → Option Keyword → Bool
+is_of K.Lincat (Some K.Lincat) = true
+is_of K.Lindef (Some K.Lindef) = true
+is_of K.Linref (Some K.Linref) = true
+is_of K.Lin (Some K.Lin) = true
+is_of k s = false
+
+abbrev pub typed_again : List FlatJudgement → List FlatJudgement
+typed_again es = flat_map (λ k. filter (λ e. is_of k (sort_of e.judgement)) es) (K.Lincat ∷ K.Lindef ∷ K.Linref ∷ K.Lin ∷ [])
