@@ -62,3 +62,5 @@ pub mod AnswerLaws
 pub mod OutputLaws
 pub mod LineReadings
 pub mod RefusalExamples
+pub mod CompileRefusalExamples
+pub mod NameRefusalExamples

@@ -1,5 +1,5 @@
 -- Faults of types and indices in an abstract judgement.
-use Rattle.std.specs.Prelude.{◌≡◌, ℕ, suc, ◌+◌, List, [], ◌∷◌, ◌++◌, map, flat_map, length, take, Bool, true, false, ◌⊎◌, codes, decimal, Contains, Option, Some, None, ◌≢◌, slice_get}
+use Rattle.std.specs.Prelude.{◌≡◌, ℕ, suc, ◌+◌, List, [], ◌∷◌, ◌++◌, map, flat_map, length, take, Bool, true, false, ◌⊎◌, codes, Contains, Option, Some, None, ◌≢◌, slice_get}
 use Rattle.gft_core.specs.Words.{IsWord}
 use Rattle.gft_core.specs.declared.place.Place.{Place}
 use Rattle.gft_core.specs.declared.tree.Tree.{Tree, roll-Tree, fold-Tree}
@@ -26,7 +26,9 @@ use Rattle.gft_model.specs.ConcreteTyping.{Spine, for_each}
 use Rattle.gft_model.specs.JudgementTyping.{list_name, name_of, Signature, signature_given}
 use Rattle.gft_model.specs.Refusals.{Moment, refusal}
 use Rattle.gft_model.specs.TermParts.{parts}
-use Rattle.gft_model.specs.Trees.{Printed, printed_step, as_arguments, filled}
+use Rattle.gft_model.specs.AbstractInfo.{index_step}
+use Rattle.gft_model.specs.Trees.{Printed, filled}
+use Rattle.gft_tree.specs.Trees.{as_arguments}
 use Rattle.gft_model.specs.Typing.{value_of}
 
 -- a category with its indices, in which ?k stands for the variable of argument k
@@ -38,11 +40,7 @@ pub record Indexed : Type 0 where
 abbrev pub indexed_at : List Tree → Indexed → Indexed
 indexed_at ts A = record { category = A.category; indices = map (filled (value_of ts)) A.indices }
 
--- the text of a type, its variables as x1, x2, ..
-abbrev pub index_step : Tree-F.Tree-F Printed → Printed
-index_step (Tree-F.Hole k) = (codes "x" ++ decimal k, false)
-index_step d = printed_step d
-
+-- the text of a type
 abbrev pub indexed_text : Indexed → List ℕ
 indexed_text A = A.category ++ as_arguments (map (fold-Tree Printed index_step) A.indices)
 

@@ -9,11 +9,12 @@ use Rattle.gft_syntax.specs.declared.bind.Bind.{Bind}
 use Rattle.gft_syntax.specs.declared.ctype.CType.{CType, out-CType}
 use Rattle.gft_syntax.specs.declared.flat.Flat.{Flat}
 use Rattle.gft_syntax.specs.declared.judgement.Alternative.{Alternative}
+use Rattle.gft_syntax.specs.declared.judgement.Constructor.{Constructor}
 use Rattle.gft_syntax.specs.declared.judgement.Definition.TheVariants as D
 use Rattle.gft_syntax.specs.declared.judgement.Judgement.{Judgement}
 use Rattle.gft_syntax.specs.declared.judgement.Judgement.TheVariants as J
 use Rattle.gft_syntax.specs.declared.linear.LinTerm.{LinTerm}
-use Rattle.gft_syntax.specs.declared.pattern.Pattern.{Pattern, out-Pattern}
+use Rattle.gft_syntax.specs.declared.pattern.Pattern.{Pattern}
 use Rattle.gft_syntax.specs.declared.pattern.Pattern.TheOpen as P
 use Rattle.gft_syntax.specs.declared.reference.PlacedName.{PlacedName}
 use Rattle.gft_syntax.specs.declared.reference.Reference.TheVariants.{Whole as WholeName}
@@ -21,7 +22,7 @@ use Rattle.gft_syntax.specs.declared.reference.Whole.{Whole}
 use Rattle.gft_syntax.specs.declared.term.Case.{Case}
 use Rattle.gft_syntax.specs.declared.term.Local.{Local}
 use Rattle.gft_syntax.specs.declared.term.Sort.TheVariants as Sort-V
-use Rattle.gft_syntax.specs.declared.term.Term.{Term, out-Term}
+use Rattle.gft_syntax.specs.declared.term.Term.{Term}
 use Rattle.gft_syntax.specs.declared.term.Term.TheOpen as T
 use Rattle.gft_syntax.specs.declared.value.Param.{Param}
 use Rattle.gft_syntax.specs.Terms.{Layer, place_of}
@@ -29,13 +30,13 @@ use Rattle.gft_model.specs.ConcreteTypes.{field_of, is_finite, count_of, values_
 use Rattle.gft_model.specs.ConcreteTyping.{IsType, IsParameter, IsDomain, Fits, Checks, FindsAll, Suits, Stands, an_oper, passes, is_record, most_values, patterns}
 use Rattle.gft_model.specs.Grammar.{is_value, labels_of}
 use Rattle.gft_model.specs.HeaderFaults.{placed_names}
-use Rattle.gft_model.specs.Items.{bare_parameter, bind_place}
+use Rattle.gft_model.specs.Items.{Item, bare_parameter, bind_place}
 use Rattle.gft_model.specs.JudgementTyping.{IsSort}
 use Rattle.gft_model.specs.Matching.{match_of, is_matched, parameter}
-use Rattle.gft_model.specs.PatternTyping.{Scope, PatternFits}
+use Rattle.gft_model.specs.PatternTyping.{Scope, PatternFits, pattern_form}
 use Rattle.gft_model.specs.Refusals.{Moment, refusal}
-use Rattle.gft_model.specs.Resting.{Rests}
-use Rattle.gft_model.specs.TypeForms.{str_type, number_type, sort_type, table_type, functions, tuple_fields}
+use Rattle.gft_model.specs.Resting.{Rests, answers_to}
+use Rattle.gft_model.specs.TypeForms.{form, str_type, number_type, sort_type, table_type, functions}
 use Rattle.gft_model.specs.TypeTexts.{type_text, param_text}
 use Rattle.gft_model.specs.TypingSites.{Mode, found, given, given_own, as_type, over, unasked, Role, any_role, data_wanted, finite_wanted, selected, Node, a_term, a_pattern, Site, term_mode, fields_in, table_in, function_in, value_mode, labelled, Binds, items, FoundFor, HasOverload, IsOverloaded, IsConstructorOf, StandsIn, judgement_sites}
 
@@ -62,7 +63,7 @@ is_ints d = false
 abbrev pub may_be_type : Layer → Bool
 may_be_type (T.Var r place) = true
 may_be_type (T.Sort s place) = true
-may_be_type (T.App f a place) = is_ints (out-Term f)
+may_be_type (T.App f a place) = is_ints (form f)
 may_be_type (T.Fields ls place) = true
 may_be_type (T.Arrow xs a b place) = true
 may_be_type (T.TabType a b place) = true
@@ -77,7 +78,6 @@ is_selected r = false
 -- the labels of a record or a tuple, and whether a form is one
 abbrev pub record_labels : Layer → Option (List (List ℕ))
 record_labels (T.Fields ls place) = if list_all is_value ls then Some (flat_map labels_of ls) else None
-record_labels (T.Tuple es place) = Some (map (λ f. f.0) (tuple_fields 0 es))
 record_labels d = None
 
 -- the first of the labels that are wanted which is not there
@@ -91,7 +91,6 @@ labels fs = map (λ f. f.0) fs
 -- the labels of a pattern, and patterns of texts
 abbrev pub pattern_labels : P.Pattern-F Pattern → Option (List (List ℕ))
 pattern_labels (P.Fields fs place) = Some (labels (labelled fs))
-pattern_labels (P.Tuple ps place) = Some (labels (tuple_fields 0 ps))
 pattern_labels d = None
 
 abbrev pub is_text_pattern : P.Pattern-F Pattern → Bool
@@ -137,7 +136,7 @@ module _ (flat : Flat) (lang : List ℕ) (w : Whole) (j : Judgement) where
   -- written type, where its found type is Type
   pub data MustBeType : Moment → Scope → Term → CType → Type 0 where
     in_place : {path : Moment} {Γ : Scope} {e : Term} {S : CType} {r : Role} → TermStands path Γ e (as_type S) r → MustBeType path Γ e S
-    as_definition : {e : Term} → unwritten j ≡ Some e → FoundFor flat e [] sort_type → MustBeType (1 ∷ []) [] e sort_type
+    as_definition : {e : Term} {S : CType} → unwritten j ≡ Some e → FoundFor flat e [] S → IsSort S → MustBeType (1 ∷ []) [] e S
 
   -- the type that a term is given
   pub data Given : Mode → CType → Type 0 where
@@ -153,22 +152,22 @@ module _ (flat : Flat) (lang : List ℕ) (w : Whole) (j : Judgement) where
 
   -- a table with its type written
   pub data WritesDomain (e : Term) : Term → Type 0 where
-    with_branches : {t : Term} {cs : List (Case Term)} {p : Place} → out-Term e ≡ T.TableOf (Some t) cs p → WritesDomain e t
-    with_items : {t : Term} {es : List Term} {p : Place} → out-Term e ≡ T.TableList t es p → WritesDomain e t
+    with_branches : {t : Term} {cs : List (Case Term)} {p : Place} → form e ≡ T.TableOf (Some t) cs p → WritesDomain e t
+    with_items : {t : Term} {es : List Term} {p : Place} → form e ≡ T.TableList t es p → WritesDomain e t
 
   -- what a table or case is over, and whether it may be over texts
   pub data IsOver (Γ : Scope) (e : Term) : Mode → Role → CType → Bool → Type 0 where
     over_written : {t : Term} {m : Mode} {r : Role} {A : CType} → WritesDomain e t → IsType (items flat) t A → IsOver Γ e m r A (is_selected r)
-    over_given : {cs : List (Case Term)} {p : Place} {m : Mode} {r : Role} {F A V : CType} → out-Term e ≡ T.TableOf None cs p →
+    over_given : {cs : List (Case Term)} {p : Place} {m : Mode} {r : Role} {F A V : CType} → form e ≡ T.TableOf None cs p →
         Given m F → table_in (out-CType F) ≡ Some (A, V) → IsOver Γ e m r A false
-    over_selector : {cs : List (Case Term)} {p : Place} {r : Role} {A : CType} → out-Term e ≡ T.TableOf None cs p → IsOver Γ e (over A) r A true
-    over_case : {b : Term} {cs : List (Case Term)} {p : Place} {m : Mode} {r : Role} {A : CType} → out-Term e ≡ T.CaseOf b cs p →
+    over_selector : {cs : List (Case Term)} {p : Place} {r : Role} {A : CType} → form e ≡ T.TableOf None cs p → IsOver Γ e (over A) r A true
+    over_case : {b : Term} {cs : List (Case Term)} {p : Place} {m : Mode} {r : Role} {A : CType} → form e ≡ T.CaseOf b cs p →
         FoundFor flat b Γ A → IsOver Γ e m r A true
 
   -- the patterns of a table's branches, and how many items a listed table has
   pub data HasBranches (e : Term) : List Pattern → Type 0 where
-    of_table : {t : Option Term} {cs : List (Case Term)} {p : Place} → out-Term e ≡ T.TableOf t cs p → HasBranches e (patterns cs)
-    of_case : {b : Term} {cs : List (Case Term)} {p : Place} → out-Term e ≡ T.CaseOf b cs p → HasBranches e (patterns cs)
+    of_table : {t : Option Term} {cs : List (Case Term)} {p : Place} → form e ≡ T.TableOf t cs p → HasBranches e (patterns cs)
+    of_case : {b : Term} {cs : List (Case Term)} {p : Place} → form e ≡ T.CaseOf b cs p → HasBranches e (patterns cs)
 
   -- v is the first value of the type that the form leaves out
   abbrev pub is_covered : List Pattern → Param → Bool
@@ -177,7 +176,7 @@ module _ (flat : Flat) (lang : List ℕ) (w : Whole) (j : Judgement) where
   pub data LeavesOut (e : Term) (A : CType) : Param → Type 0 where
     no_branch_for : {ps : List Pattern} (before after : List Param) {v : Param} → HasBranches e ps →
         values_of A ≡ before ++ v ∷ after → list_all (is_covered ps) before ≡ true → is_covered ps v ≡ false → LeavesOut e A v
-    no_item_for : {t : Term} {es : List Term} {p : Place} {v : Param} → out-Term e ≡ T.TableList t es p →
+    no_item_for : {t : Term} {es : List Term} {p : Place} {v : Param} → form e ≡ T.TableList t es p →
         slice_get (values_of A) (length es) ≡ Some v → LeavesOut e A v
 
   -- a name where a type must stand that no type was given to
@@ -187,48 +186,50 @@ module _ (flat : Flat) (lang : List ℕ) (w : Whole) (j : Judgement) where
 
   -- the type of a pattern that has one of its own
   pub data PatternHas (p : Pattern) : CType → Type 0 where
-    a_text : is_text_pattern (out-Pattern p) ≡ true → PatternHas p str_type
-    a_number : {n : ℕ} {q : Place} → out-Pattern p ≡ P.Num n q → PatternHas p (number_type n)
+    a_text : is_text_pattern (pattern_form p) ≡ true → PatternHas p str_type
+    a_number : {n : ℕ} {q : Place} → pattern_form p ≡ P.Num n q → PatternHas p (number_type n)
     a_constructor : {m : Option (List ℕ)} {c : Whole} {ps : List Pattern} {q : Place} {As : List CType} {B : CType} →
-        out-Pattern p ≡ P.Con m (WholeName c) ps q → IsConstructorOf flat c As B → length ps ≤ length As →
+        pattern_form p ≡ P.Con m (WholeName c) ps q → IsConstructorOf flat c As B → length ps ≤ length As →
         PatternHas p (functions (drop (length ps) As) B)
-    a_constructor_alone : {c : Whole} {q : Place} {As : List CType} {B : CType} → out-Pattern p ≡ P.Name (WholeName c) q →
-        IsConstructorOf flat c As B → PatternHas p (functions As B)
 
   -- a fault at a term, at a pattern
   abbrev pub at_term : Rule → Term → List (List ℕ) → Refusal
   at_term rule e names = refusal rule (place_of e) names
 
   abbrev pub at_pattern : Rule → Pattern → List (List ℕ) → Refusal
-  at_pattern rule p names = refusal rule (pattern_place (out-Pattern p)) names
+  at_pattern rule p names = refusal rule (pattern_place (pattern_form p)) names
+
+  -- what the judgement is by its name needs what it is
+  abbrev pub NeedsItself : Type 0
+  NeedsItself = (i k : Item) × Contains (items flat) i × Contains (answers_to i) w × Contains (answers_to k) w × Rests (items flat) i k
 
   -- what is broken in the types of the judgement
   pub data BreaksTypes : Moment → Refusal → Type 0 where
-    needs_itself : {n : PlacedName} {ns : List PlacedName} → placed_names j ≡ n ∷ ns → ((p : PlacedName) (cs : _) → ¬ (j ≡ J.Param p cs)) →
-        Rests (items flat) w w → BreaksTypes (0 ∷ 0 ∷ []) (refusal R.OperCycle n.place (n.name ∷ []))
-    parameter_needs_itself : {n : PlacedName} {cs : _} → j ≡ J.Param n cs → Rests (items flat) w w →
+    needs_itself : {n : PlacedName} {ns : List PlacedName} → placed_names j ≡ n ∷ ns → ((p : PlacedName) (cs : List Constructor) → ¬ (j ≡ J.Param p cs)) →
+        NeedsItself → BreaksTypes (0 ∷ 0 ∷ []) (refusal R.OperCycle n.place (n.name ∷ []))
+    parameter_needs_itself : {n : PlacedName} {cs : List Constructor} → j ≡ J.Param n cs → NeedsItself →
         BreaksTypes (0 ∷ 0 ∷ []) (refusal R.ParamCycle n.place (n.name ∷ []))
     overload_with_arguments : {ns : List PlacedName} {x : Bind} {xs : List Bind} {ds : List Alternative} → j ≡ J.Oper ns (x ∷ xs) (D.Overload ds) →
         BreaksTypes (0 ∷ 1 ∷ []) (refusal R.NoType (bind_place x) [])
-    no_type_given : {path : Moment} {Γ : Scope} {e : Term} {r : Role} → TermStands path Γ e found r → needs_type (out-Term e) ≡ true →
+    no_type_given : {path : Moment} {Γ : Scope} {e : Term} {r : Role} → TermStands path Γ e found r → needs_type (form e) ≡ true →
         BreaksTypes (before_parts path) (at_term R.NoType e [])
     lambda_is_no_function : {path : Moment} {Γ Δ : Scope} {e b : Term} {m : Mode} {r : Role} {x : Bind} {xs ys : List Bind} {p : Place} {F A : CType} →
-        TermStands path Γ e m r → out-Term e ≡ T.Fun xs b p → Given m F → Binds function_in Γ xs F Δ (x ∷ ys) A → function_in (out-CType A) ≡ None →
+        TermStands path Γ e m r → form e ≡ T.Fun xs b p → Given m F → Binds function_in Γ xs F Δ (x ∷ ys) A → function_in (out-CType A) ≡ None →
         BreaksTypes (before_parts path) (at_term R.NotFunction e (type_text A ∷ []))
     lambda_is_no_table : {path : Moment} {Γ Δ : Scope} {e b : Term} {m : Mode} {r : Role} {x : Bind} {xs ys : List Bind} {p : Place} {F A : CType} →
-        TermStands path Γ e m r → out-Term e ≡ T.TabFun xs b p → Given m F → Binds table_in Γ xs F Δ (x ∷ ys) A → table_in (out-CType A) ≡ None →
+        TermStands path Γ e m r → form e ≡ T.TabFun xs b p → Given m F → Binds table_in Γ xs F Δ (x ∷ ys) A → table_in (out-CType A) ≡ None →
         BreaksTypes (before_parts path) (at_term R.NotTable e (type_text A ∷ []))
     table_is_no_table : {path : Moment} {Γ : Scope} {e : Term} {m : Mode} {r : Role} {cs : List (Case Term)} {p : Place} {F : CType} →
-        TermStands path Γ e m r → out-Term e ≡ T.TableOf None cs p → Given m F → table_in (out-CType F) ≡ None →
+        TermStands path Γ e m r → form e ≡ T.TableOf None cs p → Given m F → table_in (out-CType F) ≡ None →
         BreaksTypes (before_parts path) (at_term R.NotTable e (type_text F ∷ []))
     no_first_branch : {path : Moment} {Γ : Scope} {e : Term} {m : Mode} {r : Role} → TermStands path Γ e m r →
-        empty_mode (out-Term e) (term_mode m) ≡ Some found → BreaksTypes path (at_term R.NoType e [])
+        empty_mode (form e) (term_mode m) ≡ Some found → BreaksTypes path (at_term R.NoType e [])
     undefined_type : {path : Moment} {Γ : Scope} {e : Term} {S : CType} {v : Whole} {p : Place} → MustBeType path Γ e S →
-        out-Term e ≡ T.Var (WholeName v) p → IsUndefinedType v → BreaksTypes path (at_term R.Unknown e (v.name ∷ []))
+        form e ≡ T.Var (WholeName v) p → IsUndefinedType v → BreaksTypes path (at_term R.Unknown e (v.name ∷ []))
     form_of_no_type : {path : Moment} {Γ : Scope} {e : Term} {S : CType} {t : LinTerm} → MustBeType path Γ e S →
-        Checks (items flat) Γ e S t → may_be_type (out-Term e) ≡ false → BreaksTypes path (at_term R.NoType e [])
+        Checks (items flat) Γ e S t → may_be_type (form e) ≡ false → BreaksTypes path (at_term R.NoType e [])
     found_does_not_fit : {path : Moment} {Γ : Scope} {e : Term} {m : Mode} {r : Role} {A B : CType} → TermStands path Γ e m r → Given m A →
-        passes (out-Term e) (out-CType A) ≡ false → FoundFor flat e Γ B → ((t : LinTerm) → ¬ (Checks (items flat) Γ e A t)) →
+        passes (form e) (out-CType A) ≡ false → FoundFor flat e Γ B → ((t : LinTerm) → ¬ (Checks (items flat) Γ e A t)) →
         BreaksTypes path (at_term R.Mismatch e (type_text A ∷ type_text B ∷ []))
     own_type_does_not_fit : {path : Moment} {Γ : Scope} {e : Term} {r : Role} {A U : CType} {t : LinTerm} → TermStands path Γ e (given_own A U) r →
         Checks (items flat) Γ e A t → ((u v : LinTerm) → ¬ (Fits A U u v)) → BreaksTypes path (at_term R.Mismatch e (type_text U ∷ type_text A ∷ []))
@@ -239,40 +240,40 @@ module _ (flat : Flat) (lang : List ℕ) (w : Whole) (j : Judgement) where
         table_in (out-CType F) ≡ None → WritesDomain e t → FoundFor flat e Γ B →
         BreaksTypes path (at_term R.Mismatch e (type_text F ∷ type_text B ∷ []))
     type_for_record : {path : Moment} {Γ : Scope} {e : Term} {m : Mode} {r : Role} {ls : List (Local Term)} {p : Place} {A : CType} → TermStands path Γ e m r →
-        Given m A → is_record (out-CType A) ≡ true → out-Term e ≡ T.Fields ls p → list_all is_value ls ≡ false → FoundFor flat e Γ sort_type →
+        Given m A → is_record (out-CType A) ≡ true → form e ≡ T.Fields ls p → list_all is_value ls ≡ false → FoundFor flat e Γ sort_type →
         BreaksTypes path (at_term R.Mismatch e (type_text A ∷ type_text sort_type ∷ []))
     projects_no_record : {path : Moment} {Γ : Scope} {e a : Term} {m : Mode} {r : Role} {x : List ℕ} {p : Place} {A : CType} → TermStands path Γ e m r →
-        out-Term e ≡ T.Proj a x p → FoundFor flat a Γ A → is_record (out-CType A) ≡ false → BreaksTypes path (at_term R.NotRecord e (type_text A ∷ []))
+        form e ≡ T.Proj a x p → FoundFor flat a Γ A → is_record (out-CType A) ≡ false → BreaksTypes path (at_term R.NotRecord e (type_text A ∷ []))
     projects_no_field : {path : Moment} {Γ : Scope} {e a : Term} {m : Mode} {r : Role} {x : List ℕ} {p : Place} {A : CType} → TermStands path Γ e m r →
-        out-Term e ≡ T.Proj a x p → FoundFor flat a Γ A → is_record (out-CType A) ≡ true → field_of x (fields_in (out-CType A)) ≡ None →
+        form e ≡ T.Proj a x p → FoundFor flat a Γ A → is_record (out-CType A) ≡ true → field_of x (fields_in (out-CType A)) ≡ None →
         BreaksTypes path (at_term R.NoField e (x ∷ []))
     extends_no_record : {path : Moment} {Γ : Scope} {e a b : Term} {m : Mode} {r : Role} {p : Place} {A B C : CType} → TermStands path Γ e m r →
-        out-Term e ≡ T.Extend a b p → FoundFor flat a Γ A → FoundFor flat b Γ B → is_record (out-CType C) ≡ false →
+        form e ≡ T.Extend a b p → FoundFor flat a Γ A → FoundFor flat b Γ B → is_record (out-CType C) ≡ false →
         (C ≡ A) ⊎ ((C ≡ B) × (is_record (out-CType A) ≡ true)) → BreaksTypes path (at_term R.NotRecord e (type_text C ∷ []))
     record_lacks : {path : Moment} {Γ : Scope} {e : Term} {m : Mode} {r : Role} {A : CType} {ls : List (List ℕ)} {x : List ℕ} → TermStands path Γ e m r →
-        Given m A → record_labels (out-Term e) ≡ Some ls → first_absent ls (labels (fields_in (out-CType A))) ≡ Some x →
+        Given m A → record_labels (form e) ≡ Some ls → first_absent ls (labels (fields_in (out-CType A))) ≡ Some x →
         BreaksTypes path (at_term R.NoField e (x ∷ []))
     selects_from_no_table : {path : Moment} {Γ : Scope} {e a b : Term} {m : Mode} {r : Role} {p : Place} {A : CType} → TermStands path Γ e m r →
-        out-Term e ≡ T.Select a b p → FoundFor flat a Γ A → table_in (out-CType A) ≡ None → BreaksTypes path (at_term R.NotTable e (type_text A ∷ []))
+        form e ≡ T.Select a b p → FoundFor flat a Γ A → table_in (out-CType A) ≡ None → BreaksTypes path (at_term R.NotTable e (type_text A ∷ []))
     applies_no_function : {path : Moment} {Γ : Scope} {e f a : Term} {m : Mode} {r : Role} {p : Place} {A : CType} → TermStands path Γ e m r → m ≢ unasked →
-        out-Term e ≡ T.App f a p → ¬ (IsOverloaded flat f) → FoundFor flat f Γ A → function_in (out-CType A) ≡ None →
+        form e ≡ T.App f a p → ¬ (IsOverloaded flat f) → FoundFor flat f Γ A → function_in (out-CType A) ≡ None →
         BreaksTypes path (at_term R.NotFunction e (type_text A ∷ []))
     function_for_data : {path : Moment} {Γ : Scope} {e : Term} {m : Mode} {r : Role} {F A B : CType} → TermStands path Γ e m r →
         (r ≡ data_wanted) ⊎ (r ≡ finite_wanted) → Has Γ e m F → function_in (out-CType F) ≡ Some (A, B) → BreaksTypes path (at_term R.FunctionHere e [])
     argument_not_finite : {path : Moment} {Γ : Scope} {e : Term} {m : Mode} {A : CType} → TermStands path Γ e m finite_wanted →
         IsType (items flat) e A → is_finite A ≡ false → BreaksTypes path (at_term R.NotFinite e (type_text A ∷ []))
     table_type_over : {path : Moment} {Γ : Scope} {e a b : Term} {m : Mode} {r : Role} {p : Place} {A : CType} → TermStands path Γ e m r →
-        out-Term e ≡ T.TabType a b p → IsType (items flat) a A → is_finite A ≡ false → BreaksTypes path (at_term R.NotFinite e (type_text A ∷ []))
+        form e ≡ T.TabType a b p → IsType (items flat) a A → is_finite A ≡ false → BreaksTypes path (at_term R.NotFinite e (type_text A ∷ []))
     table_over : {path : Moment} {Γ : Scope} {e : Term} {m : Mode} {r : Role} {A : CType} {text : Bool} → TermStands path Γ e m r → IsOver Γ e m r A text →
         is_finite A ≡ false → ¬ ((text ≡ true) × (A ≡ str_type)) → BreaksTypes path (at_term R.NotFinite e (type_text A ∷ []))
     too_many_numbers : {path : Moment} {Γ : Scope} {e f a : Term} {m : Mode} {r : Role} {n : ℕ} {p q : Place} → TermStands path Γ e m r →
-        out-Term e ≡ T.App f a p → is_ints (out-Term f) ≡ true → out-Term a ≡ T.Num n q → most_values < n + 1 →
+        form e ≡ T.App f a p → is_ints (form f) ≡ true → form a ≡ T.Num n q → most_values < n + 1 →
         BreaksTypes path (at_term R.ParamTooLarge e (type_text (number_type n) ∷ []))
     too_many_values : {path : Moment} {Γ : Scope} {e : Term} {S A : CType} {v : Whole} {p : Place} → MustBeType path Γ e S →
-        out-Term e ≡ T.Var (WholeName v) p → IsParameter (items flat) v A → most_values < count_of A →
+        form e ≡ T.Var (WholeName v) p → IsParameter (items flat) v A → most_values < count_of A →
         BreaksTypes path (at_term R.ParamTooLarge e (type_text A ∷ []))
     table_type_too_large : {path : Moment} {Γ : Scope} {e a b : Term} {m : Mode} {r : Role} {p : Place} {A : CType} → TermStands path Γ e m r →
-        out-Term e ≡ T.TabType a b p → IsType (items flat) a A → is_finite A ≡ true → most_values < count_of A →
+        form e ≡ T.TabType a b p → IsType (items flat) a A → is_finite A ≡ true → most_values < count_of A →
         BreaksTypes path (at_term R.ParamTooLarge e (type_text A ∷ []))
     table_too_large : {path : Moment} {Γ : Scope} {e : Term} {m : Mode} {r : Role} {A : CType} {text : Bool} → TermStands path Γ e m r → IsOver Γ e m r A text →
         is_finite A ≡ true → most_values < count_of A → BreaksTypes path (at_term R.ParamTooLarge e (type_text A ∷ []))
@@ -285,17 +286,17 @@ module _ (flat : Flat) (lang : List ℕ) (w : Whole) (j : Judgement) where
         TermStands path Γ e m r → m ≢ unasked → HasOverload flat e v es → FindsAll (items flat) Γ es As us →
         Suits (items flat) v As us i B t → Suits (items flat) v As us k C u → i ≢ k → BreaksTypes path (at_term R.ManyOverloads e (v.name ∷ []))
     pattern_applied_too_far : {path : Moment} {p : Pattern} {A B : CType} {m : Option (List ℕ)} {c : Whole} {ps : List Pattern} {q : Place} {As : List CType} →
-        PatternStands path p A → out-Pattern p ≡ P.Con m (WholeName c) ps q → IsConstructorOf flat c As B → length As < length ps →
+        PatternStands path p A → pattern_form p ≡ P.Con m (WholeName c) ps q → IsConstructorOf flat c As B → length As < length ps →
         BreaksTypes (before_parts path) (at_pattern R.NotFunction p (type_text B ∷ []))
     pattern_of_no_record : {path : Moment} {p : Pattern} {A : CType} {ls : List (List ℕ)} → PatternStands path p A →
-        pattern_labels (out-Pattern p) ≡ Some ls → is_record (out-CType A) ≡ false →
+        pattern_labels (pattern_form p) ≡ Some ls → is_record (out-CType A) ≡ false →
         BreaksTypes (before_parts path) (at_pattern R.NotRecord p (type_text A ∷ []))
     pattern_of_no_field : {path : Moment} {p : Pattern} {A : CType} {ls : List (List ℕ)} {x : List ℕ} → PatternStands path p A →
-        pattern_labels (out-Pattern p) ≡ Some ls → is_record (out-CType A) ≡ true → first_absent (labels (fields_in (out-CType A))) ls ≡ Some x →
+        pattern_labels (pattern_form p) ≡ Some ls → is_record (out-CType A) ≡ true → first_absent (labels (fields_in (out-CType A))) ls ≡ Some x →
         BreaksTypes (before_parts path) (at_pattern R.NoField p (x ∷ []))
     pattern_does_not_fit : {path : Moment} {p : Pattern} {A B : CType} → PatternStands path p A → PatternHas p B → ¬ (IsSubtype B A) →
         BreaksTypes path (at_pattern R.Mismatch p (type_text A ∷ type_text B ∷ []))
     variable_of_two_types : {path : Moment} {r p q : Pattern} {A B C : CType} {a : Place} (Γ Δ after : Scope) (before : Scope) (x : List ℕ) → PatternStands path r A →
-        out-Pattern r ≡ P.Or p q a → PatternFits A p Γ → PatternFits A q Δ → Γ ≡ before ++ (x, B) ∷ after →
+        pattern_form r ≡ P.Or p q a → PatternFits A p Γ → PatternFits A q Δ → Γ ≡ before ++ (x, B) ∷ after →
         All (λ f. field_of f.0 Δ ≡ Some f.1) before → field_of x Δ ≡ Some C → B ≢ C →
         BreaksTypes path (at_pattern R.Mismatch r (type_text B ∷ type_text C ∷ []))

@@ -13,7 +13,7 @@ use Rattle.gft_syntax.specs.declared.judgement.Definition.TheVariants as D
 use Rattle.gft_syntax.specs.declared.judgement.Judgement.{Judgement}
 use Rattle.gft_syntax.specs.declared.judgement.Judgement.TheVariants as J
 use Rattle.gft_syntax.specs.declared.linear.LinTerm.{LinTerm}
-use Rattle.gft_syntax.specs.declared.pattern.Pattern.{Pattern, out-Pattern}
+use Rattle.gft_syntax.specs.declared.pattern.Pattern.{Pattern}
 use Rattle.gft_syntax.specs.declared.pattern.Pattern.TheOpen as P
 use Rattle.gft_syntax.specs.declared.pattern.PatternField.{PatternField}
 use Rattle.gft_syntax.specs.declared.reference.Reference.{Reference}
@@ -23,16 +23,16 @@ use Rattle.gft_syntax.specs.declared.term.Case.{Case}
 use Rattle.gft_syntax.specs.declared.term.Local.{Local}
 use Rattle.gft_syntax.specs.declared.term.Local.TheVariants.{Value, Label, TypedValue}
 use Rattle.gft_syntax.specs.declared.term.Sort.TheVariants as Sort-V
-use Rattle.gft_syntax.specs.declared.term.Term.{Term, out-Term}
+use Rattle.gft_syntax.specs.declared.term.Term.{Term}
 use Rattle.gft_syntax.specs.declared.term.Term.TheOpen as T
 use Rattle.gft_syntax.specs.Terms.{Layer}
 use Rattle.gft_model.specs.ConcreteTypes.{field_of}
 use Rattle.gft_model.specs.ConcreteTyping.{IsType, IsParameter, Finds, Defines, Spine, Stands, a_constructor, an_overload}
 use Rattle.gft_model.specs.Items.{Item, items_of, with_arguments}
 use Rattle.gft_model.specs.JudgementTyping.{Signature, signature_in, HasLinType, HaveLinTypes, IsSort}
-use Rattle.gft_model.specs.PatternTyping.{Scope, PatternFits, Constructs}
+use Rattle.gft_model.specs.PatternTyping.{Scope, PatternFits, Constructs, pattern_form}
 use Rattle.gft_model.specs.Refusals.{Moment}
-use Rattle.gft_model.specs.TypeForms.{str_type, sort_type, function_type, functions, tuple_fields, tuple_locals, with_bound}
+use Rattle.gft_model.specs.TypeForms.{form, str_type, sort_type, function_type, functions, with_bound}
 
 -- how a term is typed: its type is found; a type is given; its own type is given, which must then fit the
 -- second; it must be a type, of that sort; it is a table over the type, whose values' type is found; or it
@@ -200,7 +200,6 @@ dotted_sites d e = site any_role (in_mode found) e ∷ []
 
 -- the parts of a term in a mode, in the order in which they are typed
 abbrev pub term_sites : Layer → Mode → List Site
-term_sites (T.Alt a b place) m = member_sites m (a ∷ b ∷ [])
 term_sites (T.Fun xs e place) m = lambda_sites (in_lambda xs) m e
 term_sites (T.TabFun xs e place) m = lambda_sites (in_table xs) m e
 term_sites (T.Arrow xs a b place) m = type_site data_wanted a ∷ type_site any_role b ∷ []
@@ -208,25 +207,19 @@ term_sites (T.TabType a b place) m = type_site any_role a ∷ type_site data_wan
 term_sites (T.Let ls e place) m = let_sites [] ls m e
 term_sites (T.Concat a b place) m = map (site any_role (in_mode (given str_type))) (a ∷ b ∷ [])
 term_sites (T.Glue a b place) m = map (site any_role (in_mode (given str_type))) (a ∷ b ∷ [])
-term_sites (T.Select a b place) m = select_sites (out-Term a) a b
+term_sites (T.Select a b place) m = select_sites (form a) a b
 term_sites (T.Extend a b place) m = map (site any_role (in_mode found)) (a ∷ b ∷ [])
 term_sites (T.Pair a b place) m = map (type_site data_wanted) (a ∷ b ∷ [])
 term_sites (T.TableOf None cs place) m = plain_table_sites m cs
 term_sites (T.TableOf (Some t) cs place) m = type_site any_role t ∷ table_sites (written t) (value_mode m) cs
 term_sites (T.TableList t es place) m = type_site any_role t ∷ member_sites (value_mode m) es
-term_sites (T.App f a place) m = application_sites (out-Term f) f a
+term_sites (T.App f a place) m = application_sites (form f) f a
 term_sites (T.CaseOf e cs place) m = site any_role (in_mode found) e ∷ table_sites (found_for e) m cs
 term_sites (T.Variants es place) m = member_sites m es
-term_sites (T.Proj e x place) m = dotted_sites (out-Term e) e
-term_sites (T.Var r place) m = []
-term_sites (T.Lit t place) m = []
-term_sites (T.Num n place) m = []
-term_sites (T.Empty place) m = []
-term_sites (T.ListCat r place) m = []
-term_sites (T.Sort s place) m = []
+term_sites (T.Proj e x place) m = dotted_sites (form e) e
 term_sites (T.Fields ls place) m = flat_map (field_sites (fields_given m)) ls
-term_sites (T.Tuple es place) m = flat_map (field_sites (fields_given m)) (tuple_locals 0 es)
 term_sites (T.Typed e t place) m = type_site any_role t ∷ site any_role (given_by (written t)) e ∷ []
+term_sites d m = []
 
 -- the arguments of a constructor's pattern, the first having that number
 abbrev pub argument_sites : Whole → ℕ → List Pattern → List Site
@@ -252,21 +245,16 @@ pattern_sites (P.Seq p q place) A = map (pattern_site (this str_type)) (p ∷ q 
 pattern_sites (P.Con m r ps place) A = constructor_sites r ps
 pattern_sites (P.Star p place) A = pattern_site (this str_type) p ∷ []
 pattern_sites (P.As x p place) A = pattern_site (this A) p ∷ []
-pattern_sites (P.Any place) A = []
-pattern_sites (P.One place) A = []
-pattern_sites (P.Name r place) A = []
-pattern_sites (P.Text t place) A = []
-pattern_sites (P.Num n place) A = []
 pattern_sites (P.Fields fs place) A = flat_map (label_sites (fields_in (out-CType A))) (labelled fs)
-pattern_sites (P.Tuple ps place) A = flat_map (label_sites (fields_in (out-CType A))) (tuple_fields 0 ps)
+pattern_sites d A = []
 
 -- the parts of a term or a pattern
 abbrev pub sites_given : Pattern → Mode → List Site
-sites_given p (given A) = pattern_sites (out-Pattern p) A
+sites_given p (given A) = pattern_sites (pattern_form p) A
 sites_given p m = []
 
 abbrev pub sites_of : Node → Mode → List Site
-sites_of (a_term e) m = term_sites (out-Term e) (term_mode m)
+sites_of (a_term e) m = term_sites (form e) (term_mode m)
 sites_of (a_pattern p) m = sites_given p m
 
 -- alternatives of an overload, and a definition without and with a written type
@@ -283,19 +271,15 @@ typed_definition_sites t (D.Overload ds) = alternative_sites ds
 
 -- the terms of a judgement of that name in a language, in the order in which they are typed
 abbrev pub judgement_sites : List ℕ → List ℕ → Judgement → List Site
-judgement_sites lang x (J.Cat c cs) = []
-judgement_sites lang x (J.ListCat c r k place) = []
-judgement_sites lang x (J.Fun ns t) = []
-judgement_sites lang x (J.Flag f v) = []
 judgement_sites lang x (J.Lincat ns t) = type_site data_wanted t ∷ []
 judgement_sites lang x (J.Lin ns xs e) = site any_role (given_by (of_lin lang x)) (with_arguments xs e) ∷ []
 judgement_sites lang x (J.Lindef ns xs e) = site any_role (given_by (of_lindef lang x)) (with_arguments xs e) ∷ []
 judgement_sites lang x (J.Linref ns xs e) = site any_role (given_by (of_linref lang x)) (with_arguments xs e) ∷ []
-judgement_sites lang x (J.ParamName p) = []
 judgement_sites lang x (J.Param p cs) = flat_map (λ c. map (λ a. type_site finite_wanted a.of_type) c.arguments) cs
 judgement_sites lang x (J.OperType ns t) = type_site any_role t ∷ []
 judgement_sites lang x (J.OperTyped ns t d) = type_site any_role t ∷ typed_definition_sites t d
 judgement_sites lang x (J.Oper ns xs d) = definition_sites xs d
+judgement_sites lang x j = []
 
 -- variables of a lambda, or of \\, over a type: the scope with them, the variables and the type left
 pub data Binds (parts_in : CType-F.CType-F CType → Option (CType × CType)) : Scope → List Bind → CType → Scope → List Bind → CType → Type 0 where
@@ -313,7 +297,7 @@ module _ (flat : Flat) where
 
   -- the application's head is that overloaded oper, with its arguments
   abbrev pub HasOverload : Term → Whole → List Term → Type 0
-  HasOverload e w es = (h : Term) × (p : Place) × Spine e [] h es × (out-Term h ≡ T.Var (WholeName w) p) × Stands items w an_overload
+  HasOverload e w es = (h : Term) × (p : Place) × Spine e [] h es × (form h ≡ T.Var (WholeName w) p) × Stands items w an_overload
 
   abbrev pub IsOverloaded : Term → Type 0
   IsOverloaded e = (w : Whole) × (es : List Term) × HasOverload e w es
