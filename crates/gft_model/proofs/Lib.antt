@@ -64,3 +64,4 @@ pub mod LineReadings
 pub mod RefusalExamples
 pub mod CompileRefusalExamples
 pub mod NameRefusalExamples
+pub mod TypeRefusalExamples

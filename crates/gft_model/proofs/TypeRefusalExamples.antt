@@ -1,0 +1,142 @@
+-- A worked example of a fault of types: a table over N = One | Two that leaves out Two, at 3:23 of ExhEng.gf.
+use Rattle.std.proofs.Common.{◌≡◌, ap, sym, ◌∙◌, refl, ℕ, true, false, List, [], ◌∷◌, Some, None, subst, inl, inr, arith}
+use Rattle.std.specs.Prelude.{codes}
+use Rattle.gft_core.specs.declared.place.Place.{Place}
+use Rattle.gft_rules.specs.declared.rule.Rule.TheVariants as R
+use Rattle.gft_syntax.specs.declared.ctype.CType.{CType, out-CType, roll-CType}
+use Rattle.gft_syntax.specs.declared.ctype.CType.TheOpen as C
+use Rattle.gft_syntax.specs.declared.ctype.CType.TheFolds.{fold-roll-CType}
+use Rattle.gft_syntax.specs.declared.ctype.CType.TheViews.{out-roll-CType}
+use Rattle.gft_syntax.specs.declared.flat.Flat.{Flat}
+use Rattle.gft_syntax.specs.declared.judgement.Constructor.{Constructor}
+use Rattle.gft_syntax.specs.declared.judgement.Definition.TheVariants as D
+use Rattle.gft_syntax.specs.declared.judgement.Judgement.{Judgement}
+use Rattle.gft_syntax.specs.declared.judgement.Judgement.TheVariants as J
+use Rattle.gft_syntax.specs.declared.pattern.Pattern.{Pattern, roll-Pattern}
+use Rattle.gft_syntax.specs.declared.pattern.Pattern.TheOpen as P
+use Rattle.gft_syntax.specs.declared.reference.PlacedName.{PlacedName}
+use Rattle.gft_syntax.specs.declared.reference.Reference.TheVariants.{Whole as WholeName}
+use Rattle.gft_syntax.specs.declared.reference.Whole.{Whole}
+use Rattle.gft_syntax.specs.declared.term.Case.{Case}
+use Rattle.gft_syntax.specs.declared.term.Sort.TheVariants as Sort-V
+use Rattle.gft_syntax.specs.declared.term.Term.{Term, roll-Term}
+use Rattle.gft_syntax.specs.declared.term.Term.TheOpen as T
+use Rattle.gft_syntax.specs.declared.term.Term.TheViews.{out-roll-Term}
+use Rattle.gft_syntax.specs.declared.value.Param.{Param}
+use Rattle.gft_syntax.specs.declared.value.Param.TheViews.{out-roll-Param}
+use Rattle.gft_syntax.specs.declared.value.Param.TheFolds.{fold-roll-Param}
+use Rattle.gft_model.specs.ConcreteTypes.{values_of, is_finite, count_of}
+use Rattle.gft_model.specs.ConcreteTyping.{IsType, IsParameter, IsDomain, IsData, text_type, table_over, parameters_named, parameter_of, no_constructor, constructor, no_argument}
+use Rattle.gft_model.specs.Items.{items_of}
+use Rattle.gft_model.specs.JudgementTyping.{IsSort}
+use Rattle.gft_model.specs.Refusals.{refusal}
+use Rattle.gft_model.specs.TypeFaults
+use Rattle.gft_model.specs.TypeTexts.{Written, param_step, param_text}
+use Rattle.gft_syntax.specs.Terms.{place_of, layer_place}
+use Rattle.gft_model.specs.TypeForms.{form, str_type, table_type, sort_type, sort_param}
+use Rattle.gft_model.specs.TypingSites
+use Rattle.gft_model.specs.ValueForms.{con_param}
+use Rattle.gft_model.proofs.Computing.{form-roll, match-roll}
+
+abbrev here : ℕ → ℕ → Place
+here line col = record { file = 0; line = line; col = col }
+
+abbrev whole : List ℕ → Whole
+whole x = record { «module» = codes "ExhEng"; name = x }
+
+abbrev named : List ℕ → PlacedName
+named x = record { name = x; place = here 2 3 }
+
+-- param N = One | Two
+abbrev a_constructor : List ℕ → Constructor
+a_constructor x = record { name = named x; arguments = [] }
+
+abbrev constructors : List Constructor
+constructors = a_constructor (codes "One") ∷ a_constructor (codes "Two") ∷ []
+
+abbrev number : CType
+number = roll-CType (C.Param (whole (codes "N")) ((whole (codes "One"), []) ∷ (whole (codes "Two"), []) ∷ []))
+
+-- N => Str, and table {One => "x"}
+abbrev n_term : Term
+n_term = roll-Term (T.Var (WholeName (whole (codes "N"))) (here 3 12))
+
+abbrev str_term : Term
+str_term = roll-Term (T.Sort Sort-V.Str (here 3 17))
+
+abbrev type_term : Term
+type_term = roll-Term (T.TabType n_term str_term (here 3 12))
+
+abbrev one_pattern : Pattern
+one_pattern = roll-Pattern (P.Name (WholeName (whole (codes "One"))) (here 3 30))
+
+abbrev branches : List (Case Term)
+branches = record { pattern = one_pattern; body = roll-Term (T.Lit (codes "x") (here 3 37)) } ∷ []
+
+abbrev table_term : Term
+table_term = roll-Term (T.TableOf None branches (here 3 23))
+
+-- oper t : N => Str = table {One => "x"}
+abbrev oper_t : Judgement
+oper_t = J.OperTyped (named (codes "t") ∷ []) type_term (D.Term table_term)
+
+abbrev exh : Flat
+exh = record {
+  name = None;
+  start = None;
+  cats = [];
+  funs = [];
+  params = record { whole = whole (codes "N"); judgement = J.Param (named (codes "N")) constructors } ∷ [];
+  opers = record { whole = whole (codes "t"); judgement = oper_t } ∷ [];
+  concretes = [];
+  typed = [];
+}
+
+is_parameter : IsParameter (items_of exh) (whole (codes "N")) number
+is_parameter = parameter_of refl (constructor no_argument (constructor no_argument no_constructor)) (out-roll-CType _)
+
+two_values : count_of number ≡ 2
+two_values = simp fold-roll-CType
+
+few : IsDomain number
+few = (simp fold-roll-CType, omega (arith, two_values))
+
+is_type : IsType (items_of exh) type_term (table_type number str_type)
+is_type =
+    table_over (form-roll _) (parameters_named (form-roll _) is_parameter few.1) few (text_type (form-roll _))
+    (λ A B e. let k = out-roll-CType C.Str in cc)
+
+no_sort : ¬ (IsSort (table_type number str_type))
+no_sort (inl e) = let h = out-roll-CType (C.Table number str_type) in let k = out-roll-CType C.TypeSort in cc
+no_sort (inr e) = let h = out-roll-CType (C.Table number str_type) in let k = out-roll-CType C.ParamSort in cc
+
+stands : TypeFaults.TermStands exh [] (whole (codes "t")) oper_t (2 ∷ []) [] table_term (TypingSites.given (table_type number str_type)) TypingSites.any_role
+stands = TypingSites.at_site 1 refl (TypingSites.to_term is_type no_sort)
+
+one : Param
+one = con_param (whole (codes "One")) []
+
+two : Param
+two = con_param (whole (codes "Two")) []
+
+leaves_two : TypeFaults.LeavesOut exh [] (whole (codes "t")) oper_t table_term number two
+unfolding one two
+leaves_two =
+    TypeFaults.no_branch_for (one ∷ []) [] (TypeFaults.of_table (form-roll _)) (simp fold-roll-CType) (simp (match-roll, out-roll-Param))
+    (simp (match-roll, out-roll-Param))
+
+found_there : TypeFaults.BreaksTypes exh [] (whole (codes "t")) oper_t (2 ∷ [])
+    (TypeFaults.at_term exh [] (whole (codes "t")) oper_t R.NotExhaustive table_term (param_text two ∷ []))
+found_there = TypeFaults.value_left_out stands (TypeFaults.over_given (form-roll _) TypeFaults.a_type (ap TypingSites.table_in (out-roll-CType _))) few leaves_two
+
+place_of_table : place_of table_term ≡ here 3 23
+place_of_table = ap layer_place (out-roll-Term _)
+
+text_of_two : param_text two ≡ codes "Two"
+unfolding two
+text_of_two = ap (λ (w : Written). w.text) (fold-roll-Param Written param_step _)
+
+pub two_is_left_out : TypeFaults.BreaksTypes exh [] (whole (codes "t")) oper_t (2 ∷ []) (refusal R.NotExhaustive (here 3 23) (codes "Two" ∷ []))
+two_is_left_out =
+    subst (λ p. TypeFaults.BreaksTypes exh [] (whole (codes "t")) oper_t (2 ∷ []) (refusal R.NotExhaustive p (codes "Two" ∷ []))) place_of_table
+    (subst (λ x. TypeFaults.BreaksTypes exh [] (whole (codes "t")) oper_t (2 ∷ []) (refusal R.NotExhaustive (place_of table_term) (x ∷ []))) text_of_two found_there)
