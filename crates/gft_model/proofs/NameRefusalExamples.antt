@@ -116,7 +116,7 @@ module _ (t e : Term) where
   -- 3:16, with mk, R1, R2
   pub mk_is_ambiguous : (constructors : List ℕ → Bool) → NameFaults.BreaksNames mods amb_eng constructors
       (3 ∷ 16 ∷ code_of R.Ambiguous ∷ 1 ∷ 35 ∷ 1 ∷ 31 ∷ []) (refusal R.Ambiguous (here 3 16) (mk ∷ codes "R1" ∷ codes "R2" ∷ []))
-  mk_is_ambiguous constructors = NameFaults.ambiguous_use (1, omega arith, refl) (used constructors) two_give
+  mk_is_ambiguous constructors = NameFaults.in_judgement (1, omega arith, refl) (NameFaults.ambiguous_use (used constructors) two_give)
 
   -- it is not unknown: the rule that a name means nothing is not broken there
   pub mk_means_something : NameFaults.Means mods amb_eng None mk

@@ -110,7 +110,8 @@ no_sort : ¬ (IsSort (table_type number str_type))
 no_sort (inl e) = let h = out-roll-CType (C.Table number str_type) in let k = out-roll-CType C.TypeSort in cc
 no_sort (inr e) = let h = out-roll-CType (C.Table number str_type) in let k = out-roll-CType C.ParamSort in cc
 
-stands : TypeFaults.TermStands exh [] (whole (codes "t")) oper_t (2 ∷ []) [] table_term (TypingSites.given (table_type number str_type)) TypingSites.any_role
+stands : TypingSites.StandsIn exh (TypingSites.judgement_sites [] (codes "t") oper_t) (2 ∷ []) [] (TypingSites.a_term table_term)
+    (TypingSites.given (table_type number str_type)) TypingSites.any_role
 stands = TypingSites.at_site 1 refl (TypingSites.to_term is_type no_sort)
 
 one : Param
@@ -119,15 +120,16 @@ one = con_param (whole (codes "One")) []
 two : Param
 two = con_param (whole (codes "Two")) []
 
-leaves_two : TypeFaults.LeavesOut exh [] (whole (codes "t")) oper_t table_term number two
+leaves_two : TypeFaults.LeavesOut table_term number two
 unfolding one two
 leaves_two =
     TypeFaults.no_branch_for (one ∷ []) [] (TypeFaults.of_table (form-roll _)) (simp fold-roll-CType) (simp (match-roll, out-roll-Param))
     (simp (match-roll, out-roll-Param))
 
-found_there : TypeFaults.BreaksTypes exh [] (whole (codes "t")) oper_t (2 ∷ [])
-    (TypeFaults.at_term exh [] (whole (codes "t")) oper_t R.NotExhaustive table_term (param_text two ∷ []))
-found_there = TypeFaults.value_left_out stands (TypeFaults.over_given (form-roll _) TypeFaults.a_type (ap TypingSites.table_in (out-roll-CType _))) few leaves_two
+found_there : TypeFaults.BreaksTypes exh [] (whole (codes "t")) oper_t (2 ∷ []) (refusal R.NotExhaustive (place_of table_term) (param_text two ∷ []))
+found_there =
+    TypeFaults.at_term stands
+    (TypeFaults.value_left_out (TypeFaults.over_given (form-roll _) TypeFaults.a_type (ap TypingSites.table_in (out-roll-CType _))) few leaves_two)
 
 place_of_table : place_of table_term ≡ here 3 23
 place_of_table = ap layer_place (out-roll-Term _)

@@ -246,41 +246,33 @@ module _ (cats funs : List FlatJudgement) (LeftOut : Whole → Type 0) where
         is_application (out-Term e) ≡ false → (is_type_role r ≡ false) ⊎ (is_arrow (out-Term e) ≡ false) →
         slice_get (parts (out-Term e)) k ≡ Some a → StandsIn j (path ++ suc k ∷ []) Γ a.part other_role
 
-  abbrev pub at_term : Rule → Term → List (List ℕ) → Refusal
-  at_term rule e names = refusal rule (place_of e) names
+  -- what is broken at a term that stands in a role, once its parts were looked at
+  pub data BreaksIndexed (Γ : Arguments) (e : Term) : Role → Rule → List (List ℕ) → Type 0 where
+    takes_function : is_arrow (out-Term e) ≡ true → BreaksIndexed Γ e argument_role R.HigherOrder []
+    lacking_form : {r : Role} → is_abstract_form (out-Term e) ≡ false → BreaksIndexed Γ e r R.NotAbstract []
+    no_head : {r : Role} → (is_arrow (out-Term e) ≡ true) ⊎ (is_literal (out-Term e) ≡ true) → BreaksIndexed Γ e (head_role r) R.NotAbstract []
+    literal_type : {r : Role} → is_type_role r ≡ true → is_literal (out-Term e) ≡ true → BreaksIndexed Γ e r R.NotAbstract []
+    arrow_index : {r : Role} → is_index_role r ≡ true → is_arrow (out-Term e) ≡ true → BreaksIndexed Γ e r R.NotAbstract []
+    list_index : {r : Role} {n : Reference} {p : Place} → is_index_role r ≡ true → out-Term e ≡ T.ListCat n p → BreaksIndexed Γ e r R.NotAbstract []
+    long_text_index : {r : Role} {s : List ℕ} {p : Place} → is_index_role r ≡ true → out-Term e ≡ T.Lit s p → ¬ (IsWord s) →
+        BreaksIndexed Γ e r R.NotAbstract []
+    no_function_index : {r : Role} {n : Reference} {p : Place} → is_index_role r ≡ true → out-Term e ≡ T.Var n p →
+        ((w : Whole) × (n ≡ WholeName w) × ¬ (IsFunction w) × ¬ (LeftOut w)) ⊎ IsBuiltIn Γ n → BreaksIndexed Γ e r R.NotAbstract []
+    left_out_index : {r : Role} {w : Whole} {p : Place} → is_index_role r ≡ true → out-Term e ≡ T.Var (WholeName w) p → ¬ (IsFunction w) →
+        LeftOut w → BreaksIndexed Γ e r R.Unknown (w.name ∷ [])
+    no_category : {r : Role} {n : Reference} → is_type_role r ≡ true → head_name (out-Term e) ≡ Some n →
+        ¬ ((w : Whole) × (n ≡ WholeName w) × IsCategory w) → ¬ (IsBuiltIn Γ n) → BreaksIndexed Γ e r R.UnknownCat (name_of n ∷ [])
+    wrong_indices : {h : Term} {r : Role} {es : List Term} {n : Reference} {k : ℕ} → is_type_role r ≡ true → is_head r ≡ false → Spine e [] h es →
+        head_name (out-Term h) ≡ Some n → TakesIndices Γ n k → length es ≢ k → BreaksIndexed Γ e r R.Arity (name_of n ∷ [])
+    wrong_arguments : {h : Term} {r : Role} {es : List Term} {n : Reference} {p : Place} {k : ℕ} → is_index_role r ≡ true → is_head r ≡ false →
+        Spine e [] h es → out-Term h ≡ T.Var n p → TakesArguments n k → length es ≢ k → BreaksIndexed Γ e r R.Arity (name_of n ∷ [])
+    index_of_another_type : {f : Term} {is_type : Bool} {t : Tree} {A B : Indexed} → Expects Γ is_type f A → IndexIs Γ e t B → A ≢ B →
+        BreaksIndexed Γ e (index_role is_type f) R.IndexType (indexed_text A ∷ indexed_text B ∷ [])
 
   -- what is broken in the types of an abstract judgement
   pub data BreaksAbstract (j : Judgement) : Moment → Refusal → Type 0 where
-    takes_function : {path : Moment} {Γ : Arguments} {e : Term} → StandsIn j path Γ e argument_role → is_arrow (out-Term e) ≡ true →
-        BreaksAbstract j path (at_term R.HigherOrder e [])
-    lacking_form : {path : Moment} {Γ : Arguments} {e : Term} {r : Role} → StandsIn j path Γ e r → is_abstract_form (out-Term e) ≡ false →
-        BreaksAbstract j path (at_term R.NotAbstract e [])
-    no_head : {path : Moment} {Γ : Arguments} {e : Term} {r : Role} → StandsIn j path Γ e (head_role r) →
-        (is_arrow (out-Term e) ≡ true) ⊎ (is_literal (out-Term e) ≡ true) → BreaksAbstract j path (at_term R.NotAbstract e [])
-    literal_type : {path : Moment} {Γ : Arguments} {e : Term} {r : Role} → StandsIn j path Γ e r → is_type_role r ≡ true →
-        is_literal (out-Term e) ≡ true → BreaksAbstract j path (at_term R.NotAbstract e [])
-    arrow_index : {path : Moment} {Γ : Arguments} {e : Term} {r : Role} → StandsIn j path Γ e r → is_index_role r ≡ true →
-        is_arrow (out-Term e) ≡ true → BreaksAbstract j path (at_term R.NotAbstract e [])
-    list_index : {path : Moment} {Γ : Arguments} {e : Term} {r : Role} {n : Reference} {p : Place} → StandsIn j path Γ e r → is_index_role r ≡ true →
-        out-Term e ≡ T.ListCat n p → BreaksAbstract j path (at_term R.NotAbstract e [])
-    long_text_index : {path : Moment} {Γ : Arguments} {e : Term} {r : Role} {s : List ℕ} {p : Place} → StandsIn j path Γ e r → is_index_role r ≡ true →
-        out-Term e ≡ T.Lit s p → ¬ (IsWord s) → BreaksAbstract j path (at_term R.NotAbstract e [])
-    no_function_index : {path : Moment} {Γ : Arguments} {e : Term} {r : Role} {n : Reference} {p : Place} → StandsIn j path Γ e r → is_index_role r ≡ true →
-        out-Term e ≡ T.Var n p → ((w : Whole) × (n ≡ WholeName w) × ¬ (IsFunction w) × ¬ (LeftOut w)) ⊎ IsBuiltIn Γ n →
-        BreaksAbstract j path (at_term R.NotAbstract e [])
-    left_out_index : {path : Moment} {Γ : Arguments} {e : Term} {r : Role} {w : Whole} {p : Place} → StandsIn j path Γ e r → is_index_role r ≡ true →
-        out-Term e ≡ T.Var (WholeName w) p → ¬ (IsFunction w) → LeftOut w → BreaksAbstract j path (at_term R.Unknown e (w.name ∷ []))
-    no_category : {path : Moment} {Γ : Arguments} {e : Term} {r : Role} {n : Reference} → StandsIn j path Γ e r → is_type_role r ≡ true →
-        head_name (out-Term e) ≡ Some n → ¬ ((w : Whole) × (n ≡ WholeName w) × IsCategory w) → ¬ (IsBuiltIn Γ n) →
-        BreaksAbstract j path (at_term R.UnknownCat e (name_of n ∷ []))
-    wrong_indices : {path : Moment} {Γ : Arguments} {e h : Term} {r : Role} {es : List Term} {n : Reference} {k : ℕ} → StandsIn j path Γ e r →
-        is_type_role r ≡ true → is_head r ≡ false → Spine e [] h es → head_name (out-Term h) ≡ Some n → TakesIndices Γ n k → length es ≢ k →
-        BreaksAbstract j path (at_term R.Arity e (name_of n ∷ []))
-    wrong_arguments : {path : Moment} {Γ : Arguments} {e h : Term} {r : Role} {es : List Term} {n : Reference} {p : Place} {k : ℕ} → StandsIn j path Γ e r →
-        is_index_role r ≡ true → is_head r ≡ false → Spine e [] h es → out-Term h ≡ T.Var n p → TakesArguments n k → length es ≢ k →
-        BreaksAbstract j path (at_term R.Arity e (name_of n ∷ []))
-    index_of_another_type : {path : Moment} {Γ : Arguments} {e f : Term} {is_type : Bool} {t : Tree} {A B : Indexed} → StandsIn j path Γ e (index_role is_type f) →
-        Expects Γ is_type f A → IndexIs Γ e t B → A ≢ B → BreaksAbstract j path (at_term R.IndexType e (indexed_text A ∷ indexed_text B ∷ []))
+    at_term : {at : Moment} {Γ : Arguments} {e : Term} {r : Role} {rule : Rule} {names : List (List ℕ)} → StandsIn j at Γ e r →
+        BreaksIndexed Γ e r rule names → BreaksAbstract j at (refusal rule (place_of e) names)
     list_of_no_category : {n : PlacedName} {r : Reference} {k : ℕ} {p : Place} → j ≡ J.ListCat n r k p →
         ¬ ((w : Whole) × (r ≡ WholeName w) × IsCategory w) → ¬ (IsBuiltIn no_arguments r) →
         BreaksAbstract j (0 ∷ []) (refusal R.UnknownCat n.place (n.name ∷ []))

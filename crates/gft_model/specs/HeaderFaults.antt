@@ -127,6 +127,10 @@ listed_names (Only n xs) = xs
 listed_names (Except n xs) = xs
 listed_names (Whole n) = []
 
+-- the module copies a functor, with substitutions
+abbrev pub IsWith : Module → Inherited → List Substitution → Type 0
+IsWith m f ss = (hs : List Inherited) × (b : Option Body) × (m.rest ≡ With hs f ss b)
+
 -- a module that a header names, and which kinds are allowed there
 pub data Wants (m : Module) : PlacedName → (Header → Bool) → Type 0 where
   an_abstract : {n a : PlacedName} → (m.header ≡ Concrete n a) ⊎ (m.header ≡ Incomplete n a) → Wants m a is_abstract
@@ -152,8 +156,8 @@ module _ (mods : List Module) where
   pub data Gives (m : Module) : PlacedName → List ℕ → Declared → Type 0 where
     inherited_gives : {h : Inherited} {x : List ℕ} {d : Declared} → Contains (inherited_of m.rest) h →
         lets_through h x ≡ true → Has mods (inherited_name h) x d → Gives m (inherited_at h) x d
-    functor_gives : {hs : List Inherited} {f : Inherited} {ss : List Substitution} {b : Option Body} {x : List ℕ} {d : Declared} →
-        m.rest ≡ With hs f ss b → lets_through f x ≡ true → Has mods (inherited_name f) x d →
+    functor_gives : {f : Inherited} {ss : List Substitution} {x : List ℕ} {d : Declared} →
+        IsWith m f ss → lets_through f x ≡ true → Has mods (inherited_name f) x d →
         Gives m (inherited_at f) x (copy (header_name m.header).name d)
     interface_gives : {n i : PlacedName} {x : List ℕ} {d : Declared} {j : Judgement} →
         m.header ≡ Instance n i → Has mods i.name x d → Writes mods d j → is_undefined j ≡ false →
@@ -178,8 +182,8 @@ module _ (mods : List Module) where
     module_of_wrong_kind : {n : PlacedName} {allowed : Header → Bool} {o : Module} →
         Wants m n allowed → Is mods n.name o → allowed o.header ≡ false →
         BreaksHeader named m (16 ∷ place_moment n.place) (refusal R.WrongKind n.place (n.name ∷ []))
-    functor_of_no_concrete : {hs : List Inherited} {f : Inherited} {ss : List Substitution} {b : Option Body} {o : Module} →
-        m.rest ≡ With hs f ss b → is_concrete m.header ≡ false → Is mods (inherited_name f) o → is_incomplete o.header ≡ true →
+    functor_of_no_concrete : {f : Inherited} {ss : List Substitution} {o : Module} →
+        IsWith m f ss → is_concrete m.header ≡ false → Is mods (inherited_name f) o → is_incomplete o.header ≡ true →
         BreaksHeader named m (16 ∷ place_moment (inherited_at f).place) (refusal R.WrongKind (inherited_at f).place (inherited_name f ∷ []))
     judgement_of_wrong_kind : {j : Judgement} {n : PlacedName} {ns : List PlacedName} →
         Contains (judgements_of m) j → may_stand j m.header ≡ false → placed_names j ≡ n ∷ ns →
@@ -198,21 +202,21 @@ module _ (mods : List Module) where
         Gives m i n.name d → Writes mods d k → sort_of k ≡ sort_of j →
         BreaksHeader named m (18 ∷ place_moment n.place ++ name_moment n.name ++ place_moment i.place)
         (refusal R.InheritClash n.place (n.name ∷ i.name ∷ (header_name m.header).name ∷ []))
-    not_incomplete : {hs : List Inherited} {f : Inherited} {ss : List Substitution} {b : Option Body} {o : Module} →
-        m.rest ≡ With hs f ss b → Is mods (inherited_name f) o → is_incomplete o.header ≡ false →
+    not_incomplete : {f : Inherited} {ss : List Substitution} {o : Module} →
+        IsWith m f ss → Is mods (inherited_name f) o → is_incomplete o.header ≡ false →
         BreaksHeader named m (19 ∷ place_moment (inherited_at f).place)
         (refusal R.NotIncomplete (inherited_at f).place (inherited_name f ∷ []))
-    without_substitution : {hs : List Inherited} {f : Inherited} {ss : List Substitution} {b : Option Body} {I : List ℕ} →
-        m.rest ≡ With hs f ss b → Parameter (inherited_name f) I →
+    without_substitution : {f : Inherited} {ss : List Substitution} {I : List ℕ} →
+        IsWith m f ss → Parameter (inherited_name f) I →
         ((s : Substitution) → Contains ss s → s.interface.name ≢ I) →
         BreaksHeader named m (20 ∷ place_moment (inherited_at f).place ++ name_moment I)
         (refusal R.ParameterUnmatched (inherited_at f).place (I ∷ []))
-    no_parameter : {hs : List Inherited} {f : Inherited} {ss : List Substitution} {b : Option Body} {s : Substitution} →
-        m.rest ≡ With hs f ss b → Contains ss s → ¬ (Parameter (inherited_name f) s.interface.name) →
+    no_parameter : {f : Inherited} {ss : List Substitution} {s : Substitution} →
+        IsWith m f ss → Contains ss s → ¬ (Parameter (inherited_name f) s.interface.name) →
         BreaksHeader named m (20 ∷ place_moment s.interface.place)
         (refusal R.ParameterUnmatched s.interface.place (s.interface.name ∷ []))
-    no_instance : {hs : List Inherited} {f : Inherited} {ss : List Substitution} {b : Option Body} {s : Substitution} →
-        m.rest ≡ With hs f ss b → Contains ss s → ¬ (IsInstanceOf s.instance.name s.interface.name) →
+    no_instance : {f : Inherited} {ss : List Substitution} {s : Substitution} →
+        IsWith m f ss → Contains ss s → ¬ (IsInstanceOf s.instance.name s.interface.name) →
         BreaksHeader named m (20 ∷ place_moment s.instance.place)
         (refusal R.ParameterUnmatched s.instance.place (s.instance.name ∷ []))
     instance_lacks : {n i : PlacedName} {x : List ℕ} {d : Declared} {j : Judgement} → m.header ≡ Instance n i →

@@ -205,54 +205,46 @@ module _ (mods : List Module) (m : Module) where
     qualified_head : {xs : Locals} {p : Pattern} {Q x : List ℕ} {ps : List Pattern} {a : Place} → HasPattern constructors j xs p →
         out-Pattern p ≡ P.Con (Some Q) (Written x) ps a → Heads constructors j (Some Q) x a (is_local Q xs)
 
-  -- the moment of a rule at a place: by place, and at one place by number
-  abbrev pub at : Place → Rule → Moment
-  at p rule = place_moment p ++ code_of rule ∷ []
-
-  abbrev pub between : Place → Opened → Opened → Moment
-  between p one other = at p R.Ambiguous ++ place_moment (opened_at other).place ++ place_moment (opened_at one).place
-
-  abbrev pub ambiguous_at : Place → List ℕ → Opened → Opened → Refusal
-  ambiguous_at p x one other = refusal R.Ambiguous p (x ∷ (opened_at one).name ∷ (opened_at other).name ∷ [])
-
   -- the test says of each bare name whether it means a constructor
   abbrev pub AreConstructors : (List ℕ → Bool) → Type 0
   AreConstructors constructors = (x : List ℕ) → (constructors x ≡ true) ↔ MeansConstructor None x
 
+  -- what is broken in the names of an own judgement: the place, the rule, the name, and for an ambiguous one
+  -- the two opened modules
+  pub data BreaksUse (constructors : List ℕ → Bool) (j : Judgement) : Place → Rule → List ℕ → List Opened → Type 0 where
+    means_nothing : {q : Option (List ℕ)} {x : List ℕ} {p : Place} → Uses constructors j q x p → ¬ (Means q x) →
+        ¬ ((is_abstract m.header ≡ true) × (q ≡ None) × IsBuiltIn x) → BreaksUse constructors j p R.Unknown x []
+    heads_nothing : {q : Option (List ℕ)} {x : List ℕ} {p : Place} {hidden : Bool} → Heads constructors j q x p hidden →
+        (hidden ≡ true) ⊎ ¬ (MeansConstructor q x) → BreaksUse constructors j p R.Unknown x []
+    variable_as_type : {x : List ℕ} {p : Place} → is_abstract m.header ≡ false → Contains (sites_of constructors j) (a_variable_type x p) →
+        BreaksUse constructors j p R.Unknown x []
+    word_alone : {w : List ℕ} {p : Place} → Contains (sites_of constructors j) (a_word w p) → BreaksUse constructors j p R.Unknown w []
+    ambiguous_use : {q : Option (List ℕ)} {x : List ℕ} {p : Place} {one other : Opened} → Uses constructors j q x p → TwoGive q x one other →
+        BreaksUse constructors j p R.Ambiguous x (one ∷ other ∷ [])
+    ambiguous_head : {q : Option (List ℕ)} {x : List ℕ} {p : Place} {one other : Opened} → Heads constructors j q x p false →
+        MeansConstructor q x → TwoGive q x one other → BreaksUse constructors j p R.Ambiguous x (one ∷ other ∷ [])
+    ambiguous_leaf : {xs : Locals} {r : Pattern} {x : List ℕ} {p : Place} {one other : Opened} → HasPattern constructors j xs r →
+        out-Pattern r ≡ P.Name (Written x) p → is_local x xs ≡ false → MeansConstructor None x → TwoGive None x one other →
+        BreaksUse constructors j p R.Ambiguous x (one ∷ other ∷ [])
+    bound_twice : {xs : Locals} {r : Pattern} (before middle after : Bound) {x : List ℕ} (a : Place) {b : Place} → HasPattern constructors j xs r →
+        bound_in (is_bound constructors xs) r ≡ before ++ (x, a) ∷ middle ++ (x, b) ∷ after → BreaksUse constructors j b R.PatternVars x []
+    bound_on_one_side : {xs : Locals} {r p q one other : Pattern} {x : List ℕ} {a b : Place} → HasPattern constructors j xs r →
+        out-Pattern r ≡ P.Or p q a → ((one ≡ p) × (other ≡ q)) ⊎ ((one ≡ q) × (other ≡ p)) →
+        Contains (bound_in (is_bound constructors xs) one) (x, b) → ((c : Place) → ¬ (Contains (bound_in (is_bound constructors xs) other) (x, c))) →
+        BreaksUse constructors j b R.PatternVars x []
+    bound_in_star : {xs : Locals} {r p : Pattern} {x : List ℕ} {a b : Place} → HasPattern constructors j xs r → out-Pattern r ≡ P.Star p a →
+        Contains (bound_in (is_bound constructors xs) p) (x, b) → BreaksUse constructors j b R.PatternVars x []
+
+  -- the moment: by place, at one place by number, and of ambiguous meanings the first that differ
+  abbrev pub opened_moment : List Opened → Moment
+  opened_moment [] = []
+  opened_moment (o ∷ os) = opened_moment os ++ place_moment (opened_at o).place
+
   -- what is broken in the names of a module's own judgements
   pub data BreaksNames (constructors : List ℕ → Bool) : Moment → Refusal → Type 0 where
-    means_nothing : {j : Judgement} {q : Option (List ℕ)} {x : List ℕ} {p : Place} → Contains (judgements_of m) j →
-        Uses constructors j q x p → ¬ (Means q x) → ¬ ((is_abstract m.header ≡ true) × (q ≡ None) × IsBuiltIn x) →
-        BreaksNames constructors (at p R.Unknown) (refusal R.Unknown p (x ∷ []))
-    heads_nothing : {j : Judgement} {q : Option (List ℕ)} {x : List ℕ} {p : Place} {hidden : Bool} → Contains (judgements_of m) j →
-        Heads constructors j q x p hidden → (hidden ≡ true) ⊎ ¬ (MeansConstructor q x) →
-        BreaksNames constructors (at p R.Unknown) (refusal R.Unknown p (x ∷ []))
-    variable_as_type : {j : Judgement} {x : List ℕ} {p : Place} → Contains (judgements_of m) j → is_abstract m.header ≡ false →
-        Contains (sites_of constructors j) (a_variable_type x p) →
-        BreaksNames constructors (at p R.Unknown) (refusal R.Unknown p (x ∷ []))
-    word_alone : {j : Judgement} {w : List ℕ} {p : Place} → Contains (judgements_of m) j →
-        Contains (sites_of constructors j) (a_word w p) → BreaksNames constructors (at p R.Unknown) (refusal R.Unknown p (w ∷ []))
+    in_judgement : {j : Judgement} {p : Place} {rule : Rule} {x : List ℕ} {os : List Opened} → Contains (judgements_of m) j →
+        BreaksUse constructors j p rule x os →
+        BreaksNames constructors (place_moment p ++ code_of rule ∷ opened_moment os) (refusal rule p (x ∷ map (λ o. (opened_at o).name) os))
     abstract_lacks : {k : Keyword} {n : PlacedName} {A : List ℕ} → Contains (own_names m) (Some k, n) → abstract_name m.header ≡ Some A →
         ((d : Declared) (j : Judgement) → Has mods A n.name d → Writes mods d j → part_of n.name j ≢ Some (wanted_part k)) →
-        BreaksNames constructors (at n.place R.Unknown) (refusal R.Unknown n.place (n.name ∷ []))
-    ambiguous_use : {j : Judgement} {q : Option (List ℕ)} {x : List ℕ} {p : Place} {one other : Opened} → Contains (judgements_of m) j →
-        Uses constructors j q x p → TwoGive q x one other →
-        BreaksNames constructors (between p one other) (ambiguous_at p x one other)
-    ambiguous_head : {j : Judgement} {q : Option (List ℕ)} {x : List ℕ} {p : Place} {one other : Opened} → Contains (judgements_of m) j →
-        Heads constructors j q x p false → MeansConstructor q x → TwoGive q x one other →
-        BreaksNames constructors (between p one other) (ambiguous_at p x one other)
-    ambiguous_leaf : {j : Judgement} {xs : Locals} {r : Pattern} {x : List ℕ} {p : Place} {one other : Opened} → Contains (judgements_of m) j →
-        HasPattern constructors j xs r → out-Pattern r ≡ P.Name (Written x) p → is_local x xs ≡ false → MeansConstructor None x →
-        TwoGive None x one other → BreaksNames constructors (between p one other) (ambiguous_at p x one other)
-    bound_twice : {j : Judgement} {xs : Locals} {r : Pattern} (before middle after : Bound) {x : List ℕ} (a b : Place) → Contains (judgements_of m) j →
-        HasPattern constructors j xs r →
-        bound_in (is_bound constructors xs) r ≡ before ++ (x, a) ∷ middle ++ (x, b) ∷ after →
-        BreaksNames constructors (at b R.PatternVars) (refusal R.PatternVars b (x ∷ []))
-    bound_on_one_side : {j : Judgement} {xs : Locals} {r p q one other : Pattern} {x : List ℕ} {a b : Place} → Contains (judgements_of m) j →
-        HasPattern constructors j xs r → out-Pattern r ≡ P.Or p q a →
-        ((one ≡ p) × (other ≡ q)) ⊎ ((one ≡ q) × (other ≡ p)) → Contains (bound_in (is_bound constructors xs) one) (x, b) →
-        ((c : Place) → ¬ (Contains (bound_in (is_bound constructors xs) other) (x, c))) →
-        BreaksNames constructors (at b R.PatternVars) (refusal R.PatternVars b (x ∷ []))
-    bound_in_star : {j : Judgement} {xs : Locals} {r p : Pattern} {x : List ℕ} {a b : Place} → Contains (judgements_of m) j →
-        HasPattern constructors j xs r → out-Pattern r ≡ P.Star p a → Contains (bound_in (is_bound constructors xs) p) (x, b) →
-        BreaksNames constructors (at b R.PatternVars) (refusal R.PatternVars b (x ∷ []))
+        BreaksNames constructors (place_moment n.place ++ code_of R.Unknown ∷ []) (refusal R.Unknown n.place (n.name ∷ []))

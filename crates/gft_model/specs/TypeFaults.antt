@@ -120,69 +120,127 @@ abbrev pub unwritten : Judgement → Option Term
 unwritten (J.Oper ns [] (D.Term e)) = Some e
 unwritten j = None
 
--- the moment before the parts of a form
-abbrev pub before_parts : Moment → Moment
-before_parts path = path ++ 0 ∷ []
+-- the rule that a judgement breaks which needs itself
+abbrev pub cycle_rule : Judgement → Option Rule
+cycle_rule (J.Param n cs) = Some R.ParamCycle
+cycle_rule (J.OperType ns t) = Some R.OperCycle
+cycle_rule (J.OperTyped ns t d) = Some R.OperCycle
+cycle_rule (J.Oper ns xs d) = Some R.OperCycle
+cycle_rule j = None
 
-module _ (flat : Flat) (lang : List ℕ) (w : Whole) (j : Judgement) where
-  -- a term or a pattern of the judgement, where it stands
-  abbrev pub TermStands : Moment → Scope → Term → Mode → Role → Type 0
-  TermStands path Γ e m r = StandsIn flat (judgement_sites lang w.name j) path Γ (a_term e) m r
+-- the type that a term is given
+pub data Given : Mode → CType → Type 0 where
+  a_type : {A : CType} → Given (given A) A
+  its_own : {A U : CType} → Given (given_own A U) A
+  a_sort : {S : CType} → Given (as_type S) S
 
-  abbrev pub PatternStands : Moment → Pattern → CType → Type 0
-  PatternStands path p A = (Γ : Scope) × (r : Role) × StandsIn flat (judgement_sites lang w.name j) path Γ (a_pattern p) (given A) r
+-- a table with its type written
+pub data WritesDomain (e : Term) : Term → Type 0 where
+  with_branches : {t : Term} {cs : List (Case Term)} {p : Place} → form e ≡ T.TableOf (Some t) cs p → WritesDomain e t
+  with_items : {t : Term} {es : List Term} {p : Place} → form e ≡ T.TableList t es p → WritesDomain e t
 
-  -- a term that must be a type of the sort: where one is written, and the definition of an oper without a
-  -- written type, where its found type is Type
-  pub data MustBeType : Moment → Scope → Term → CType → Type 0 where
-    in_place : {path : Moment} {Γ : Scope} {e : Term} {S : CType} {r : Role} → TermStands path Γ e (as_type S) r → MustBeType path Γ e S
-    as_definition : {e : Term} {S : CType} → unwritten j ≡ Some e → FoundFor flat e [] S → IsSort S → MustBeType (1 ∷ []) [] e S
+-- the patterns of the branches of a table or a case
+pub data HasBranches (e : Term) : List Pattern → Type 0 where
+  of_table : {t : Option Term} {cs : List (Case Term)} {p : Place} → form e ≡ T.TableOf t cs p → HasBranches e (patterns cs)
+  of_case : {b : Term} {cs : List (Case Term)} {p : Place} → form e ≡ T.CaseOf b cs p → HasBranches e (patterns cs)
 
-  -- the type that a term is given
-  pub data Given : Mode → CType → Type 0 where
-    a_type : {A : CType} → Given (given A) A
-    its_own : {A U : CType} → Given (given_own A U) A
-    a_sort : {S : CType} → Given (as_type S) S
+-- the first value of the type that the form leaves out
+abbrev pub is_covered : List Pattern → Param → Bool
+is_covered ps v = list_any (λ p. is_matched (match_of p (parameter v))) ps
 
-  -- the type that a term has in its mode
-  pub data Has : Scope → Term → Mode → CType → Type 0 where
-    has_found : {Γ : Scope} {e : Term} {A : CType} → FoundFor flat e Γ A → Has Γ e found A
-    has_given : {Γ : Scope} {e : Term} {A : CType} → Has Γ e (given A) A
-    is_written : {Γ : Scope} {e : Term} {S A : CType} → IsType (items flat) e A → Has Γ e (as_type S) A
+pub data LeavesOut (e : Term) (A : CType) : Param → Type 0 where
+  no_branch_for : {ps : List Pattern} (before after : List Param) {v : Param} → HasBranches e ps →
+      values_of A ≡ before ++ v ∷ after → list_all (is_covered ps) before ≡ true → is_covered ps v ≡ false → LeavesOut e A v
+  no_item_for : {t : Term} {es : List Term} {p : Place} {v : Param} → form e ≡ T.TableList t es p →
+      slice_get (values_of A) (length es) ≡ Some v → LeavesOut e A v
 
-  -- a table with its type written
-  pub data WritesDomain (e : Term) : Term → Type 0 where
-    with_branches : {t : Term} {cs : List (Case Term)} {p : Place} → form e ≡ T.TableOf (Some t) cs p → WritesDomain e t
-    with_items : {t : Term} {es : List Term} {p : Place} → form e ≡ T.TableList t es p → WritesDomain e t
-
-  -- what a table or case is over, and whether it may be over texts
-  pub data IsOver (Γ : Scope) (e : Term) : Mode → Role → CType → Bool → Type 0 where
-    over_written : {t : Term} {m : Mode} {r : Role} {A : CType} → WritesDomain e t → IsType (items flat) t A → IsOver Γ e m r A (is_selected r)
-    over_given : {cs : List (Case Term)} {p : Place} {m : Mode} {r : Role} {F A V : CType} → form e ≡ T.TableOf None cs p →
-        Given m F → table_in (out-CType F) ≡ Some (A, V) → IsOver Γ e m r A false
-    over_selector : {cs : List (Case Term)} {p : Place} {r : Role} {A : CType} → form e ≡ T.TableOf None cs p → IsOver Γ e (over A) r A true
-    over_case : {b : Term} {cs : List (Case Term)} {p : Place} {m : Mode} {r : Role} {A : CType} → form e ≡ T.CaseOf b cs p →
-        FoundFor flat b Γ A → IsOver Γ e m r A true
-
-  -- the patterns of a table's branches, and how many items a listed table has
-  pub data HasBranches (e : Term) : List Pattern → Type 0 where
-    of_table : {t : Option Term} {cs : List (Case Term)} {p : Place} → form e ≡ T.TableOf t cs p → HasBranches e (patterns cs)
-    of_case : {b : Term} {cs : List (Case Term)} {p : Place} → form e ≡ T.CaseOf b cs p → HasBranches e (patterns cs)
-
-  -- v is the first value of the type that the form leaves out
-  abbrev pub is_covered : List Pattern → Param → Bool
-  is_covered ps v = list_any (λ p. is_matched (match_of p (parameter v))) ps
-
-  pub data LeavesOut (e : Term) (A : CType) : Param → Type 0 where
-    no_branch_for : {ps : List Pattern} (before after : List Param) {v : Param} → HasBranches e ps →
-        values_of A ≡ before ++ v ∷ after → list_all (is_covered ps) before ≡ true → is_covered ps v ≡ false → LeavesOut e A v
-    no_item_for : {t : Term} {es : List Term} {p : Place} {v : Param} → form e ≡ T.TableList t es p →
-        slice_get (values_of A) (length es) ≡ Some v → LeavesOut e A v
-
+module _ (flat : Flat) where
   -- a name where a type must stand that no type was given to
   abbrev pub IsUndefinedType : Whole → Type 0
   IsUndefinedType v = Contains (items flat) (bare_parameter v)
       ⊎ ((k : ℕ) × (t : Term) × (S : CType) × Stands (items flat) v (an_oper k (Some t) None) × IsType (items flat) t S × IsSort S)
+
+  -- what is broken at a term that must be a type of the sort
+  pub data BreaksSort (Γ : Scope) (e : Term) (S : CType) : Rule → List (List ℕ) → Type 0 where
+    undefined_type : {v : Whole} {p : Place} → form e ≡ T.Var (WholeName v) p → IsUndefinedType v → BreaksSort Γ e S R.Unknown (v.name ∷ [])
+    form_of_no_type : {t : LinTerm} → Checks (items flat) Γ e S t → may_be_type (form e) ≡ false → BreaksSort Γ e S R.NoType []
+    too_many_values : {A : CType} {v : Whole} {p : Place} → form e ≡ T.Var (WholeName v) p → IsParameter (items flat) v A →
+        most_values < count_of A → BreaksSort Γ e S R.ParamTooLarge (type_text A ∷ [])
+
+  -- what is broken at a term before its parts are looked at
+  pub data BreaksEarly (e : Term) : Mode → Rule → List (List ℕ) → Type 0 where
+    no_type_given : needs_type (form e) ≡ true → BreaksEarly e found R.NoType []
+    lambda_is_no_function : {Γ Δ : Scope} {b : Term} {m : Mode} {x : Bind} {xs ys : List Bind} {p : Place} {F A : CType} →
+        form e ≡ T.Fun xs b p → Given m F → Binds function_in Γ xs F Δ (x ∷ ys) A → function_in (out-CType A) ≡ None →
+        BreaksEarly e m R.NotFunction (type_text A ∷ [])
+    lambda_is_no_table : {Γ Δ : Scope} {b : Term} {m : Mode} {x : Bind} {xs ys : List Bind} {p : Place} {F A : CType} →
+        form e ≡ T.TabFun xs b p → Given m F → Binds table_in Γ xs F Δ (x ∷ ys) A → table_in (out-CType A) ≡ None →
+        BreaksEarly e m R.NotTable (type_text A ∷ [])
+    table_is_no_table : {m : Mode} {cs : List (Case Term)} {p : Place} {F : CType} → form e ≡ T.TableOf None cs p → Given m F →
+        table_in (out-CType F) ≡ None → BreaksEarly e m R.NotTable (type_text F ∷ [])
+
+  module _ (Γ : Scope) (e : Term) (m : Mode) (r : Role) where
+    -- the type that a term has in its mode
+    pub data Has : CType → Type 0 where
+      has_found : {A : CType} → m ≡ found → FoundFor flat e Γ A → Has A
+      has_given : {A : CType} → m ≡ given A → Has A
+      is_written : {S A : CType} → m ≡ as_type S → IsType (items flat) e A → Has A
+
+    -- what a table or case is over, and whether it may be over texts
+    pub data IsOver : CType → Bool → Type 0 where
+      over_written : {t : Term} {A : CType} → WritesDomain e t → IsType (items flat) t A → IsOver A (is_selected r)
+      over_given : {cs : List (Case Term)} {p : Place} {F A V : CType} → form e ≡ T.TableOf None cs p → Given m F →
+          table_in (out-CType F) ≡ Some (A, V) → IsOver A false
+      over_selector : {cs : List (Case Term)} {p : Place} {A : CType} → form e ≡ T.TableOf None cs p → m ≡ over A → IsOver A true
+      over_case : {b : Term} {cs : List (Case Term)} {p : Place} {A : CType} → form e ≡ T.CaseOf b cs p → FoundFor flat b Γ A → IsOver A true
+
+    -- what is broken at a term once its parts were looked at
+    pub data BreaksTerm : Rule → List (List ℕ) → Type 0 where
+      no_first_branch : empty_mode (form e) (term_mode m) ≡ Some found → BreaksTerm R.NoType []
+      found_does_not_fit : {A B : CType} → Given m A → passes (form e) (out-CType A) ≡ false → FoundFor flat e Γ B →
+          ((t : LinTerm) → ¬ (Checks (items flat) Γ e A t)) → BreaksTerm R.Mismatch (type_text A ∷ type_text B ∷ [])
+      own_type_does_not_fit : {A U : CType} {t : LinTerm} → m ≡ given_own A U → Checks (items flat) Γ e A t →
+          ((u v : LinTerm) → ¬ (Fits A U u v)) → BreaksTerm R.Mismatch (type_text U ∷ type_text A ∷ [])
+      table_over_another : {t : Term} {F A B V : CType} → Given m F → table_in (out-CType F) ≡ Some (A, V) → WritesDomain e t →
+          IsType (items flat) t B → B ≢ A → BreaksTerm R.Mismatch (type_text F ∷ type_text (table_type B V) ∷ [])
+      table_where_none_is_given : {t : Term} {F B : CType} → Given m F → table_in (out-CType F) ≡ None → WritesDomain e t →
+          FoundFor flat e Γ B → BreaksTerm R.Mismatch (type_text F ∷ type_text B ∷ [])
+      type_for_record : {ls : List (Local Term)} {p : Place} {A : CType} → Given m A → is_record (out-CType A) ≡ true → form e ≡ T.Fields ls p →
+          list_all is_value ls ≡ false → FoundFor flat e Γ sort_type → BreaksTerm R.Mismatch (type_text A ∷ type_text sort_type ∷ [])
+      projects_no_record : {a : Term} {x : List ℕ} {p : Place} {A : CType} → form e ≡ T.Proj a x p → FoundFor flat a Γ A →
+          is_record (out-CType A) ≡ false → BreaksTerm R.NotRecord (type_text A ∷ [])
+      projects_no_field : {a : Term} {x : List ℕ} {p : Place} {A : CType} → form e ≡ T.Proj a x p → FoundFor flat a Γ A →
+          is_record (out-CType A) ≡ true → field_of x (fields_in (out-CType A)) ≡ None → BreaksTerm R.NoField (x ∷ [])
+      extends_no_record : {a b : Term} {p : Place} {A B C : CType} → form e ≡ T.Extend a b p → FoundFor flat a Γ A → FoundFor flat b Γ B →
+          is_record (out-CType C) ≡ false → (C ≡ A) ⊎ ((C ≡ B) × (is_record (out-CType A) ≡ true)) → BreaksTerm R.NotRecord (type_text C ∷ [])
+      record_lacks : {A : CType} {ls : List (List ℕ)} {x : List ℕ} → Given m A → record_labels (form e) ≡ Some ls →
+          first_absent ls (labels (fields_in (out-CType A))) ≡ Some x → BreaksTerm R.NoField (x ∷ [])
+      selects_from_no_table : {a b : Term} {p : Place} {A : CType} → form e ≡ T.Select a b p → FoundFor flat a Γ A →
+          table_in (out-CType A) ≡ None → BreaksTerm R.NotTable (type_text A ∷ [])
+      applies_no_function : {f a : Term} {p : Place} {A : CType} → m ≢ unasked → form e ≡ T.App f a p → ¬ (IsOverloaded flat f) →
+          FoundFor flat f Γ A → function_in (out-CType A) ≡ None → BreaksTerm R.NotFunction (type_text A ∷ [])
+      function_for_data : {F A B : CType} → (r ≡ data_wanted) ⊎ (r ≡ finite_wanted) → Has F → function_in (out-CType F) ≡ Some (A, B) →
+          BreaksTerm R.FunctionHere []
+      argument_not_finite : {A : CType} → r ≡ finite_wanted → IsType (items flat) e A → is_finite A ≡ false →
+          BreaksTerm R.NotFinite (type_text A ∷ [])
+      table_type_over : {a b : Term} {p : Place} {A : CType} → form e ≡ T.TabType a b p → IsType (items flat) a A → is_finite A ≡ false →
+          BreaksTerm R.NotFinite (type_text A ∷ [])
+      table_over : {A : CType} {text : Bool} → IsOver A text → is_finite A ≡ false → ¬ ((text ≡ true) × (A ≡ str_type)) →
+          BreaksTerm R.NotFinite (type_text A ∷ [])
+      too_many_numbers : {f a : Term} {n : ℕ} {p q : Place} → form e ≡ T.App f a p → is_ints (form f) ≡ true → form a ≡ T.Num n q →
+          most_values < n + 1 → BreaksTerm R.ParamTooLarge (type_text (number_type n) ∷ [])
+      table_type_too_large : {a b : Term} {p : Place} {A : CType} → form e ≡ T.TabType a b p → IsType (items flat) a A → is_finite A ≡ true →
+          most_values < count_of A → BreaksTerm R.ParamTooLarge (type_text A ∷ [])
+      table_too_large : {A : CType} {text : Bool} → IsOver A text → is_finite A ≡ true → most_values < count_of A →
+          BreaksTerm R.ParamTooLarge (type_text A ∷ [])
+      value_left_out : {A : CType} {text : Bool} {v : Param} → IsOver A text → IsDomain A → LeavesOut e A v →
+          BreaksTerm R.NotExhaustive (param_text v ∷ [])
+      no_alternative : {v : Whole} {es : List Term} {As : List CType} {us : List LinTerm} → m ≢ unasked → HasOverload flat e v es →
+          FindsAll (items flat) Γ es As us → ((k : ℕ) (B : CType) (u : LinTerm) → ¬ (Suits (items flat) v As us k B u)) →
+          BreaksTerm R.NoOverload (v.name ∷ [])
+      many_alternatives : {v : Whole} {es : List Term} {As : List CType} {us : List LinTerm} {i k : ℕ} {B C : CType} {t u : LinTerm} →
+          m ≢ unasked → HasOverload flat e v es → FindsAll (items flat) Γ es As us → Suits (items flat) v As us i B t →
+          Suits (items flat) v As us k C u → i ≢ k → BreaksTerm R.ManyOverloads (v.name ∷ [])
 
   -- the type of a pattern that has one of its own
   pub data PatternHas (p : Pattern) : CType → Type 0 where
@@ -192,111 +250,44 @@ module _ (flat : Flat) (lang : List ℕ) (w : Whole) (j : Judgement) where
         pattern_form p ≡ P.Con m (WholeName c) ps q → IsConstructorOf flat c As B → length ps ≤ length As →
         PatternHas p (functions (drop (length ps) As) B)
 
-  -- a fault at a term, at a pattern
-  abbrev pub at_term : Rule → Term → List (List ℕ) → Refusal
-  at_term rule e names = refusal rule (place_of e) names
+  -- what is broken at a pattern that is given a type, before its parts are looked at and after that
+  pub data BreaksPatternEarly (p : Pattern) (A : CType) : Rule → List (List ℕ) → Type 0 where
+    applied_too_far : {m : Option (List ℕ)} {c : Whole} {ps : List Pattern} {q : Place} {As : List CType} {B : CType} →
+        pattern_form p ≡ P.Con m (WholeName c) ps q → IsConstructorOf flat c As B → length As < length ps →
+        BreaksPatternEarly p A R.NotFunction (type_text B ∷ [])
+    pattern_of_no_record : {ls : List (List ℕ)} → pattern_labels (pattern_form p) ≡ Some ls → is_record (out-CType A) ≡ false →
+        BreaksPatternEarly p A R.NotRecord (type_text A ∷ [])
+    pattern_of_no_field : {ls : List (List ℕ)} {x : List ℕ} → pattern_labels (pattern_form p) ≡ Some ls → is_record (out-CType A) ≡ true →
+        first_absent (labels (fields_in (out-CType A))) ls ≡ Some x → BreaksPatternEarly p A R.NoField (x ∷ [])
 
-  abbrev pub at_pattern : Rule → Pattern → List (List ℕ) → Refusal
-  at_pattern rule p names = refusal rule (pattern_place (pattern_form p)) names
-
-  -- what the judgement is by its name needs what it is
-  abbrev pub NeedsItself : Type 0
-  NeedsItself = (i k : Item) × Contains (items flat) i × Contains (answers_to i) w × Contains (answers_to k) w × Rests (items flat) i k
-
-  -- what is broken in the types of the judgement
-  pub data BreaksTypes : Moment → Refusal → Type 0 where
-    needs_itself : {n : PlacedName} {ns : List PlacedName} → placed_names j ≡ n ∷ ns → ((p : PlacedName) (cs : List Constructor) → ¬ (j ≡ J.Param p cs)) →
-        NeedsItself → BreaksTypes (0 ∷ 0 ∷ []) (refusal R.OperCycle n.place (n.name ∷ []))
-    parameter_needs_itself : {n : PlacedName} {cs : List Constructor} → j ≡ J.Param n cs → NeedsItself →
-        BreaksTypes (0 ∷ 0 ∷ []) (refusal R.ParamCycle n.place (n.name ∷ []))
-    overload_with_arguments : {ns : List PlacedName} {x : Bind} {xs : List Bind} {ds : List Alternative} → j ≡ J.Oper ns (x ∷ xs) (D.Overload ds) →
-        BreaksTypes (0 ∷ 1 ∷ []) (refusal R.NoType (bind_place x) [])
-    no_type_given : {path : Moment} {Γ : Scope} {e : Term} {r : Role} → TermStands path Γ e found r → needs_type (form e) ≡ true →
-        BreaksTypes (before_parts path) (at_term R.NoType e [])
-    lambda_is_no_function : {path : Moment} {Γ Δ : Scope} {e b : Term} {m : Mode} {r : Role} {x : Bind} {xs ys : List Bind} {p : Place} {F A : CType} →
-        TermStands path Γ e m r → form e ≡ T.Fun xs b p → Given m F → Binds function_in Γ xs F Δ (x ∷ ys) A → function_in (out-CType A) ≡ None →
-        BreaksTypes (before_parts path) (at_term R.NotFunction e (type_text A ∷ []))
-    lambda_is_no_table : {path : Moment} {Γ Δ : Scope} {e b : Term} {m : Mode} {r : Role} {x : Bind} {xs ys : List Bind} {p : Place} {F A : CType} →
-        TermStands path Γ e m r → form e ≡ T.TabFun xs b p → Given m F → Binds table_in Γ xs F Δ (x ∷ ys) A → table_in (out-CType A) ≡ None →
-        BreaksTypes (before_parts path) (at_term R.NotTable e (type_text A ∷ []))
-    table_is_no_table : {path : Moment} {Γ : Scope} {e : Term} {m : Mode} {r : Role} {cs : List (Case Term)} {p : Place} {F : CType} →
-        TermStands path Γ e m r → form e ≡ T.TableOf None cs p → Given m F → table_in (out-CType F) ≡ None →
-        BreaksTypes (before_parts path) (at_term R.NotTable e (type_text F ∷ []))
-    no_first_branch : {path : Moment} {Γ : Scope} {e : Term} {m : Mode} {r : Role} → TermStands path Γ e m r →
-        empty_mode (form e) (term_mode m) ≡ Some found → BreaksTypes path (at_term R.NoType e [])
-    undefined_type : {path : Moment} {Γ : Scope} {e : Term} {S : CType} {v : Whole} {p : Place} → MustBeType path Γ e S →
-        form e ≡ T.Var (WholeName v) p → IsUndefinedType v → BreaksTypes path (at_term R.Unknown e (v.name ∷ []))
-    form_of_no_type : {path : Moment} {Γ : Scope} {e : Term} {S : CType} {t : LinTerm} → MustBeType path Γ e S →
-        Checks (items flat) Γ e S t → may_be_type (form e) ≡ false → BreaksTypes path (at_term R.NoType e [])
-    found_does_not_fit : {path : Moment} {Γ : Scope} {e : Term} {m : Mode} {r : Role} {A B : CType} → TermStands path Γ e m r → Given m A →
-        passes (form e) (out-CType A) ≡ false → FoundFor flat e Γ B → ((t : LinTerm) → ¬ (Checks (items flat) Γ e A t)) →
-        BreaksTypes path (at_term R.Mismatch e (type_text A ∷ type_text B ∷ []))
-    own_type_does_not_fit : {path : Moment} {Γ : Scope} {e : Term} {r : Role} {A U : CType} {t : LinTerm} → TermStands path Γ e (given_own A U) r →
-        Checks (items flat) Γ e A t → ((u v : LinTerm) → ¬ (Fits A U u v)) → BreaksTypes path (at_term R.Mismatch e (type_text U ∷ type_text A ∷ []))
-    table_over_another : {path : Moment} {Γ : Scope} {e t : Term} {m : Mode} {r : Role} {F A B V : CType} → TermStands path Γ e m r → Given m F →
-        table_in (out-CType F) ≡ Some (A, V) → WritesDomain e t → IsType (items flat) t B → B ≢ A →
-        BreaksTypes path (at_term R.Mismatch e (type_text F ∷ type_text (table_type B V) ∷ []))
-    table_where_none_is_given : {path : Moment} {Γ : Scope} {e t : Term} {m : Mode} {r : Role} {F B : CType} → TermStands path Γ e m r → Given m F →
-        table_in (out-CType F) ≡ None → WritesDomain e t → FoundFor flat e Γ B →
-        BreaksTypes path (at_term R.Mismatch e (type_text F ∷ type_text B ∷ []))
-    type_for_record : {path : Moment} {Γ : Scope} {e : Term} {m : Mode} {r : Role} {ls : List (Local Term)} {p : Place} {A : CType} → TermStands path Γ e m r →
-        Given m A → is_record (out-CType A) ≡ true → form e ≡ T.Fields ls p → list_all is_value ls ≡ false → FoundFor flat e Γ sort_type →
-        BreaksTypes path (at_term R.Mismatch e (type_text A ∷ type_text sort_type ∷ []))
-    projects_no_record : {path : Moment} {Γ : Scope} {e a : Term} {m : Mode} {r : Role} {x : List ℕ} {p : Place} {A : CType} → TermStands path Γ e m r →
-        form e ≡ T.Proj a x p → FoundFor flat a Γ A → is_record (out-CType A) ≡ false → BreaksTypes path (at_term R.NotRecord e (type_text A ∷ []))
-    projects_no_field : {path : Moment} {Γ : Scope} {e a : Term} {m : Mode} {r : Role} {x : List ℕ} {p : Place} {A : CType} → TermStands path Γ e m r →
-        form e ≡ T.Proj a x p → FoundFor flat a Γ A → is_record (out-CType A) ≡ true → field_of x (fields_in (out-CType A)) ≡ None →
-        BreaksTypes path (at_term R.NoField e (x ∷ []))
-    extends_no_record : {path : Moment} {Γ : Scope} {e a b : Term} {m : Mode} {r : Role} {p : Place} {A B C : CType} → TermStands path Γ e m r →
-        form e ≡ T.Extend a b p → FoundFor flat a Γ A → FoundFor flat b Γ B → is_record (out-CType C) ≡ false →
-        (C ≡ A) ⊎ ((C ≡ B) × (is_record (out-CType A) ≡ true)) → BreaksTypes path (at_term R.NotRecord e (type_text C ∷ []))
-    record_lacks : {path : Moment} {Γ : Scope} {e : Term} {m : Mode} {r : Role} {A : CType} {ls : List (List ℕ)} {x : List ℕ} → TermStands path Γ e m r →
-        Given m A → record_labels (form e) ≡ Some ls → first_absent ls (labels (fields_in (out-CType A))) ≡ Some x →
-        BreaksTypes path (at_term R.NoField e (x ∷ []))
-    selects_from_no_table : {path : Moment} {Γ : Scope} {e a b : Term} {m : Mode} {r : Role} {p : Place} {A : CType} → TermStands path Γ e m r →
-        form e ≡ T.Select a b p → FoundFor flat a Γ A → table_in (out-CType A) ≡ None → BreaksTypes path (at_term R.NotTable e (type_text A ∷ []))
-    applies_no_function : {path : Moment} {Γ : Scope} {e f a : Term} {m : Mode} {r : Role} {p : Place} {A : CType} → TermStands path Γ e m r → m ≢ unasked →
-        form e ≡ T.App f a p → ¬ (IsOverloaded flat f) → FoundFor flat f Γ A → function_in (out-CType A) ≡ None →
-        BreaksTypes path (at_term R.NotFunction e (type_text A ∷ []))
-    function_for_data : {path : Moment} {Γ : Scope} {e : Term} {m : Mode} {r : Role} {F A B : CType} → TermStands path Γ e m r →
-        (r ≡ data_wanted) ⊎ (r ≡ finite_wanted) → Has Γ e m F → function_in (out-CType F) ≡ Some (A, B) → BreaksTypes path (at_term R.FunctionHere e [])
-    argument_not_finite : {path : Moment} {Γ : Scope} {e : Term} {m : Mode} {A : CType} → TermStands path Γ e m finite_wanted →
-        IsType (items flat) e A → is_finite A ≡ false → BreaksTypes path (at_term R.NotFinite e (type_text A ∷ []))
-    table_type_over : {path : Moment} {Γ : Scope} {e a b : Term} {m : Mode} {r : Role} {p : Place} {A : CType} → TermStands path Γ e m r →
-        form e ≡ T.TabType a b p → IsType (items flat) a A → is_finite A ≡ false → BreaksTypes path (at_term R.NotFinite e (type_text A ∷ []))
-    table_over : {path : Moment} {Γ : Scope} {e : Term} {m : Mode} {r : Role} {A : CType} {text : Bool} → TermStands path Γ e m r → IsOver Γ e m r A text →
-        is_finite A ≡ false → ¬ ((text ≡ true) × (A ≡ str_type)) → BreaksTypes path (at_term R.NotFinite e (type_text A ∷ []))
-    too_many_numbers : {path : Moment} {Γ : Scope} {e f a : Term} {m : Mode} {r : Role} {n : ℕ} {p q : Place} → TermStands path Γ e m r →
-        form e ≡ T.App f a p → is_ints (form f) ≡ true → form a ≡ T.Num n q → most_values < n + 1 →
-        BreaksTypes path (at_term R.ParamTooLarge e (type_text (number_type n) ∷ []))
-    too_many_values : {path : Moment} {Γ : Scope} {e : Term} {S A : CType} {v : Whole} {p : Place} → MustBeType path Γ e S →
-        form e ≡ T.Var (WholeName v) p → IsParameter (items flat) v A → most_values < count_of A →
-        BreaksTypes path (at_term R.ParamTooLarge e (type_text A ∷ []))
-    table_type_too_large : {path : Moment} {Γ : Scope} {e a b : Term} {m : Mode} {r : Role} {p : Place} {A : CType} → TermStands path Γ e m r →
-        form e ≡ T.TabType a b p → IsType (items flat) a A → is_finite A ≡ true → most_values < count_of A →
-        BreaksTypes path (at_term R.ParamTooLarge e (type_text A ∷ []))
-    table_too_large : {path : Moment} {Γ : Scope} {e : Term} {m : Mode} {r : Role} {A : CType} {text : Bool} → TermStands path Γ e m r → IsOver Γ e m r A text →
-        is_finite A ≡ true → most_values < count_of A → BreaksTypes path (at_term R.ParamTooLarge e (type_text A ∷ []))
-    value_left_out : {path : Moment} {Γ : Scope} {e : Term} {m : Mode} {r : Role} {A : CType} {text : Bool} {v : Param} → TermStands path Γ e m r →
-        IsOver Γ e m r A text → IsDomain A → LeavesOut e A v → BreaksTypes path (at_term R.NotExhaustive e (param_text v ∷ []))
-    no_alternative : {path : Moment} {Γ : Scope} {e : Term} {m : Mode} {r : Role} {v : Whole} {es : List Term} {As : List CType} {us : List LinTerm} →
-        TermStands path Γ e m r → m ≢ unasked → HasOverload flat e v es → FindsAll (items flat) Γ es As us →
-        ((k : ℕ) (B : CType) (u : LinTerm) → ¬ (Suits (items flat) v As us k B u)) → BreaksTypes path (at_term R.NoOverload e (v.name ∷ []))
-    many_alternatives : {path : Moment} {Γ : Scope} {e : Term} {m : Mode} {r : Role} {v : Whole} {es : List Term} {As : List CType} {us : List LinTerm} {i k : ℕ} {B C : CType} {t u : LinTerm} →
-        TermStands path Γ e m r → m ≢ unasked → HasOverload flat e v es → FindsAll (items flat) Γ es As us →
-        Suits (items flat) v As us i B t → Suits (items flat) v As us k C u → i ≢ k → BreaksTypes path (at_term R.ManyOverloads e (v.name ∷ []))
-    pattern_applied_too_far : {path : Moment} {p : Pattern} {A B : CType} {m : Option (List ℕ)} {c : Whole} {ps : List Pattern} {q : Place} {As : List CType} →
-        PatternStands path p A → pattern_form p ≡ P.Con m (WholeName c) ps q → IsConstructorOf flat c As B → length As < length ps →
-        BreaksTypes (before_parts path) (at_pattern R.NotFunction p (type_text B ∷ []))
-    pattern_of_no_record : {path : Moment} {p : Pattern} {A : CType} {ls : List (List ℕ)} → PatternStands path p A →
-        pattern_labels (pattern_form p) ≡ Some ls → is_record (out-CType A) ≡ false →
-        BreaksTypes (before_parts path) (at_pattern R.NotRecord p (type_text A ∷ []))
-    pattern_of_no_field : {path : Moment} {p : Pattern} {A : CType} {ls : List (List ℕ)} {x : List ℕ} → PatternStands path p A →
-        pattern_labels (pattern_form p) ≡ Some ls → is_record (out-CType A) ≡ true → first_absent (labels (fields_in (out-CType A))) ls ≡ Some x →
-        BreaksTypes (before_parts path) (at_pattern R.NoField p (x ∷ []))
-    pattern_does_not_fit : {path : Moment} {p : Pattern} {A B : CType} → PatternStands path p A → PatternHas p B → ¬ (IsSubtype B A) →
-        BreaksTypes path (at_pattern R.Mismatch p (type_text A ∷ type_text B ∷ []))
-    variable_of_two_types : {path : Moment} {r p q : Pattern} {A B C : CType} {a : Place} (Γ Δ after : Scope) (before : Scope) (x : List ℕ) → PatternStands path r A →
-        pattern_form r ≡ P.Or p q a → PatternFits A p Γ → PatternFits A q Δ → Γ ≡ before ++ (x, B) ∷ after →
+  pub data BreaksPattern (p : Pattern) (A : CType) : Rule → List (List ℕ) → Type 0 where
+    pattern_does_not_fit : {B : CType} → PatternHas p B → ¬ (IsSubtype B A) → BreaksPattern p A R.Mismatch (type_text A ∷ type_text B ∷ [])
+    variable_of_two_types : {q r : Pattern} {B C : CType} {a : Place} (Γ Δ after : Scope) (before : Scope) (x : List ℕ) →
+        pattern_form p ≡ P.Or q r a → PatternFits A q Γ → PatternFits A r Δ → Γ ≡ before ++ (x, B) ∷ after →
         All (λ f. field_of f.0 Δ ≡ Some f.1) before → field_of x Δ ≡ Some C → B ≢ C →
-        BreaksTypes path (at_pattern R.Mismatch r (type_text B ∷ type_text C ∷ []))
+        BreaksPattern p A R.Mismatch (type_text B ∷ type_text C ∷ [])
+
+  -- what is broken in the types of the judgement of that whole name, in a language
+  pub data BreaksTypes (lang : List ℕ) (w : Whole) (j : Judgement) : Moment → Refusal → Type 0 where
+    needs_itself : {i k : Item} {n : PlacedName} {ns : List PlacedName} {rule : Rule} → Contains (items flat) i → Contains (items flat) k →
+        Contains (answers_to i) w → Contains (answers_to k) w → Rests (items flat) i k → placed_names j ≡ n ∷ ns → cycle_rule j ≡ Some rule →
+        BreaksTypes lang w j (0 ∷ 0 ∷ []) (refusal rule n.place (n.name ∷ []))
+    overload_with_arguments : {ns : List PlacedName} {x : Bind} {xs : List Bind} {ds : List Alternative} → j ≡ J.Oper ns (x ∷ xs) (D.Overload ds) →
+        BreaksTypes lang w j (0 ∷ 1 ∷ []) (refusal R.NoType (bind_place x) [])
+    at_term_early : {at : Moment} {Γ : Scope} {e : Term} {m : Mode} {r : Role} {rule : Rule} {names : List (List ℕ)} →
+        StandsIn flat (judgement_sites lang w.name j) at Γ (a_term e) m r → BreaksEarly e m rule names →
+        BreaksTypes lang w j (at ++ 0 ∷ []) (refusal rule (place_of e) names)
+    at_term : {at : Moment} {Γ : Scope} {e : Term} {m : Mode} {r : Role} {rule : Rule} {names : List (List ℕ)} →
+        StandsIn flat (judgement_sites lang w.name j) at Γ (a_term e) m r → BreaksTerm Γ e m r rule names →
+        BreaksTypes lang w j at (refusal rule (place_of e) names)
+    at_type : {at : Moment} {Γ : Scope} {e : Term} {S : CType} {r : Role} {rule : Rule} {names : List (List ℕ)} →
+        StandsIn flat (judgement_sites lang w.name j) at Γ (a_term e) (as_type S) r → BreaksSort Γ e S rule names →
+        BreaksTypes lang w j at (refusal rule (place_of e) names)
+    at_definition : {e : Term} {S : CType} {rule : Rule} {names : List (List ℕ)} → unwritten j ≡ Some e → FoundFor flat e [] S → IsSort S →
+        BreaksSort [] e S rule names → BreaksTypes lang w j (1 ∷ []) (refusal rule (place_of e) names)
+    at_pattern_early : {at : Moment} {Γ : Scope} {p : Pattern} {A : CType} {r : Role} {rule : Rule} {names : List (List ℕ)} →
+        StandsIn flat (judgement_sites lang w.name j) at Γ (a_pattern p) (given A) r → BreaksPatternEarly p A rule names →
+        BreaksTypes lang w j (at ++ 0 ∷ []) (refusal rule (pattern_place (pattern_form p)) names)
+    at_pattern : {at : Moment} {Γ : Scope} {p : Pattern} {A : CType} {r : Role} {rule : Rule} {names : List (List ℕ)} →
+        StandsIn flat (judgement_sites lang w.name j) at Γ (a_pattern p) (given A) r → BreaksPattern p A rule names →
+        BreaksTypes lang w j at (refusal rule (pattern_place (pattern_form p)) names)
