@@ -1,5 +1,5 @@
 -- Worked examples of refusals of languages: a + on an argument is stuck at its place; a language that is whole.
-use Rattle.std.proofs.Common.{◌≡◌, ℕ, List, [], ◌∷◌, ◌++◌, Option, Some, None, refl, arith}
+use Rattle.std.proofs.Common.{◌≡◌, ℕ, List, [], ◌∷◌, ◌++◌, Option, Some, None, refl, sym, ◌∙◌, arith}
 use Rattle.std.specs.Prelude.{codes, map, flat_map}
 use Rattle.gft_core.specs.declared.place.Place.{Place}
 use Rattle.gft_rules.specs.declared.rule.Rule.TheVariants as R
@@ -54,6 +54,10 @@ pub glue_on_an_argument : BreaksCompiling glue (codes "GlueEng") (turn_of K.Lin 
     (refusal R.GlueOnArgument here (codes "GlueEng" ∷ codes "Pl" ∷ []))
 glue_on_an_argument = is_stuck (of_function {e = plural} (0, omega arith, refl) refl) first_of_plural
 
--- A is said whatever it stands in: nothing of it is stuck
-pub constant_is_not_stuck : first_stuck (flat_map (λ os. os) (map (λ c. c.1) (outcomes_by_case glue (codes "GlueEng") (codes "A")))) ≡ None
-constant_is_not_stuck = simp (fold-roll-Term, results-roll)
+nothing_stuck : first_stuck (flat_map (λ os. os) (map (λ c. c.1) (outcomes_by_case glue (codes "GlueEng") (codes "A")))) ≡ None
+nothing_stuck = simp (fold-roll-Term, results-roll)
+
+-- A is the word a: no step of it is stuck
+pub constant_is_not_stuck : {k : Stuck} →
+    ¬ (first_stuck (flat_map (λ os. os) (map (λ c. c.1) (outcomes_by_case glue (codes "GlueEng") (codes "A")))) ≡ Some k)
+constant_is_not_stuck {k = k} e = let wrong : None ≡ Some k = sym nothing_stuck ∙ e in cc

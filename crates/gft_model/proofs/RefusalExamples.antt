@@ -1,10 +1,11 @@
 -- Worked examples of refusals of characters and slices.
-use Rattle.std.proofs.Common.{◌≡◌, ℕ, List, [], ◌∷◌, ◌++◌, refl}
-use Rattle.std.specs.Prelude.{codes, Some, None}
+use Rattle.std.proofs.Common.{◌≡◌, ℕ, List, [], ◌∷◌, ◌++◌, refl, ◌⊎◌, inl, inr, ap, sym, ◌∙◌, subst, arith}
+use Rattle.std.specs.Prelude.{codes, ◌≤◌, drop, Some, None}
 use Rattle.std.specs.Str.{chars, is_utf8}
 use Rattle.std.specs.Str.Lossy.{utf8_valid_len}
 use lib.Utf8
 use Rattle.gft_core.specs.declared.place.Place.{Place}
+use Rattle.gft_rules.specs.declared.refusal.Refusal.{Refusal}
 use Rattle.gft_rules.specs.declared.rule.Rule.TheVariants as R
 use Rattle.gft_syntax.specs.declared.judgement.Judgement.{Judgement}
 use Rattle.gft_syntax.specs.declared.judgement.Keyword.{Keyword}
@@ -13,10 +14,11 @@ use Rattle.gft_syntax.specs.declared.token.Reserved.TheVariants as W
 use Rattle.gft_syntax.specs.declared.token.SourceToken.{SourceToken}
 use Rattle.gft_syntax.specs.declared.token.Symbol.TheVariants as S
 use Rattle.gft_syntax.specs.declared.token.TokenForm.{TokenForm}
-use Rattle.gft_syntax.specs.declared.token.TokenForm.TheVariants.{Identifier, Reserved, Symbol}
+use Rattle.gft_syntax.specs.declared.token.TokenForm.TheVariants.{Identifier, Reserved, Number, Symbol}
 use Rattle.gft_model.specs.Grammar.{IsReserved, one, more}
 use Rattle.gft_model.specs.ModuleGrammar.{SpellsJudgement, SpellsSlice, with_keyword, goes_on, keyword_word, category, function, linearization, no_context}
 use Rattle.gft_model.specs.Refusals.{refusal}
+use Rattle.gft_model.specs.Source.{lexeme_at, longest, token, nothing}
 use Rattle.gft_model.specs.SyntaxFaults
 use Rattle.gft_model.specs.TokenFaults
 
@@ -30,6 +32,55 @@ at col form = record { form = form; place = here 1 col }
 pub not_closed : TokenFaults.BreaksTokens 0 (34 ∷ codes "a") (refusal R.OpenString (here 1 1) [])
 unfolding chars lib.Utf8.encode utf8_valid_len is_utf8
 not_closed = TokenFaults.open_string TokenFaults.at_start refl
+
+-- in a file that is one semicolon nothing is broken
+abbrev semicolon : List ℕ
+semicolon = codes ";"
+
+token_there : lexeme_at semicolon ≡ token (Symbol S.Semicolon) 1
+token_there = refl
+
+step_from : {cs : List ℕ} {n : ℕ} → (cs ≡ semicolon) ⊎ (cs ≡ []) → TokenFaults.length_of (lexeme_at cs) ≡ Some n →
+    (drop n cs ≡ semicolon) ⊎ (drop n cs ≡ [])
+step_from {cs} {n} (inl q) e =
+    let f : Some 1 ≡ Some n = subst (λ ds. TokenFaults.length_of (lexeme_at ds) ≡ Some n) q e in
+    let m : 1 ≡ n = cc in inr (subst (λ k. drop k cs ≡ []) m (ap (drop 1) q))
+step_from {cs} {n} (inr q) e = let f : None ≡ Some n = subst (λ ds. TokenFaults.length_of (lexeme_at ds) ≡ Some n) q e in cc
+
+begins_at : {p : Place} {cs : List ℕ} → TokenFaults.Begins 0 semicolon p cs → (cs ≡ semicolon) ⊎ (cs ≡ [])
+begins_at TokenFaults.at_start = inl refl
+begins_at (TokenFaults.after_lexeme b e) = step_from (begins_at b) e
+
+head_is : {c : ℕ} {cs : List ℕ} → (c ∷ cs ≡ semicolon) ⊎ (c ∷ cs ≡ []) → (c ≡ 59) × (cs ≡ [])
+head_is (inl q) = (cc, cc)
+head_is (inr q) = absurd (cc)
+
+no_number : {cs : List ℕ} {n k : ℕ} {s : List ℕ} → (cs ≡ semicolon) ⊎ (cs ≡ []) → lexeme_at cs ≡ token (Number n s) k → ⊥
+no_number {n = n} {k = k} {s = s} (inl q) e =
+    let f : token (Symbol S.Semicolon) 1 ≡ token (Number n s) k = subst (λ ds. lexeme_at ds ≡ token (Number n s) k) q e in cc
+no_number {n = n} {k = k} {s = s} (inr q) e = let f : nothing ≡ token (Number n s) k = subst (λ ds. lexeme_at ds ≡ token (Number n s) k) q e in cc
+
+no_other : (before rest : List ℕ) (c : ℕ) → semicolon ≡ before ++ c ∷ rest → TokenFaults.no_character ≤ c → ⊥
+no_other [] rest c e h = let f : 59 ≡ c = cc in omega (arith, f, h)
+no_other (x ∷ []) rest c e h = cc
+no_other (x ∷ y ∷ ys) rest c e h = cc
+
+text_is : TokenFaults.text_of semicolon ≡ semicolon
+unfolding chars lib.Utf8.encode utf8_valid_len is_utf8
+text_is = refl
+
+there : {p : Place} {cs : List ℕ} → TokenFaults.Begins 0 (TokenFaults.text_of semicolon) p cs → (cs ≡ semicolon) ⊎ (cs ≡ [])
+there {p} {cs} b = begins_at (subst (λ text. TokenFaults.Begins 0 text p cs) text_is b)
+
+pub no_fault : (r : Refusal) → ¬ (TokenFaults.BreaksTokens 0 semicolon r)
+no_fault r (TokenFaults.not_utf8 before rest c e h) = no_other before rest c (sym text_is ∙ e) h
+no_fault r (TokenFaults.bad_character {c = c} {cs = cs} b e w q g) =
+    let h = head_is (there b) in
+    let f : longest semicolon ≡ None = subst (λ ds. longest (59 ∷ ds) ≡ None) h.1 (subst (λ d. longest (d ∷ cs) ≡ None) h.0 e) in cc
+no_fault r (TokenFaults.open_string b e) = let h = head_is (there b) in omega (arith, h.0)
+no_fault r (TokenFaults.bad_escape b c e f g) = let h = head_is (there b) in omega (arith, h.0)
+no_fault r (TokenFaults.open_comment b e) = let h = head_is (there b) in omega (arith, h.0)
+no_fault r (TokenFaults.number_too_large b e h) = no_number (there b) e
 
 -- abstract A = {cat S ; fun a ; }
 abbrev brace : SourceToken

@@ -1,187 +1,41 @@
--- An import: which files are loaded, and what is broken in them, in the order of the import.
-use Rattle.std.specs.Prelude.{◌≡◌, ◌↔◌, ℕ, ◌-◌, ◌<◌, ◌≤◌, List, [], ◌∷◌, ◌++◌, map, flat_map, filter, take, drop, length, Bool, true, false, ◌==◌, bytes_eq, codes, decimal, Contains, Option, Some, None, ◌⊎◌, ◌≢◌, slice_get, if◌then◌else◌}
-use Rattle.std.specs.FinMap.{get}
+-- An import: what is broken in it, in its order, and what its files give.
+use Rattle.std.specs.FinMap.{get, remove}
 use Rattle.std.specs.List.{list_any}
+use Rattle.std.specs.Prelude.{◌≡◌, ◌↔◌, ℕ, ◌-◌, ◌<◌, List, [], ◌∷◌, ◌++◌, flat_map, length, Bool, bytes_eq, Contains, Some, None, ◌≢◌, slice_get}
 use Rattle.gft_io.specs.Outside.{Files}
-use Rattle.gft_pmcfg.specs.declared.grammar.Grammar.{Grammar}
-use Rattle.gft_rules.specs.declared.refusal.Refusal.{Refusal}
-use Rattle.gft_rules.specs.declared.rule.Rule.{Rule}
-use Rattle.gft_rules.specs.declared.rule.Rule.TheVariants as R
-use Rattle.gft_syntax.specs.declared.flat.Flat.{Flat}
-use Rattle.gft_syntax.specs.declared.flat.FlatConcrete.{FlatConcrete}
-use Rattle.gft_syntax.specs.declared.flat.FlatJudgement.{FlatJudgement}
-use Rattle.gft_syntax.specs.declared.linear.Typed.{Typed}
-use Rattle.gft_syntax.specs.declared.module.Header.{Header}
-use Rattle.gft_syntax.specs.declared.module.Header.TheVariants.{Abstract, Resource, Interface, Instance, Concrete, Incomplete}
-use Rattle.gft_syntax.specs.declared.module.Module.{Module}
-use Rattle.gft_syntax.specs.declared.module.Rest.{Rest}
-use Rattle.gft_syntax.specs.declared.module.Rest.TheVariants.{Own, Inherits, With}
-use Rattle.gft_syntax.specs.declared.reference.PlacedName.{PlacedName}
-use Rattle.gft_syntax.specs.declared.reference.Whole.{Whole}
-use Rattle.gft_syntax.specs.declared.token.SourceToken.{SourceToken}
 use Rattle.gft_model.specs.AbstractFaults.{BreaksAbstract}
-use Rattle.gft_model.specs.Commands.{EndsIn, source_ending, portable_ending}
+use Rattle.gft_model.specs.AbstractParts.{IsAbstractPart}
+use Rattle.gft_model.specs.Commands.{EndsIn, portable_ending}
 use Rattle.gft_model.specs.CompileFaults.{BreaksCompiling}
-use Rattle.gft_model.specs.Flaws.{Flaw, arity, index_type, unproductive}
-use Rattle.gft_model.specs.PortableFile
-use Rattle.gft_model.specs.PortableFile.{HasFault, IsInvalid}
 use Rattle.gft_model.specs.Flats.{AreExactly, HasEntry, HasSomewhere, categories, functions, parameters, opers, linearizations}
-use Rattle.gft_model.specs.HeaderFaults.{BreaksHeader, Redefines, inherited_at, opened_at, restricted_of}
+use Rattle.gft_model.specs.HeaderFaults.{BreaksHeader, Redefines}
 use Rattle.gft_model.specs.Items.{items_of}
 use Rattle.gft_model.specs.JudgementOrder.{Turns, IsListed, AreEntries, typed_again, Listing}
 use Rattle.gft_model.specs.JudgementTyping.{IsTyped}
-use Rattle.gft_model.specs.ModuleGrammar.{SpellsModule}
-use Rattle.gft_model.specs.Modules.{header_name, module_named, opened_of}
+use Rattle.gft_model.specs.Loading.{base_of, Loading, loaded, refused, LoadsNamed, nothing_loaded, HasFiles}
+use Rattle.gft_model.specs.Modules.{header_name, module_named, judgements_of}
 use Rattle.gft_model.specs.NameFaults.{AreConstructors, BreaksNames, abstract_name}
-use Rattle.gft_model.specs.Refusals.{Moment, ByPlace, IsFirst, refusal, placeless}
-use Rattle.gft_model.specs.Source.{Tokens}
-use Rattle.gft_model.specs.SyntaxFaults.{BreaksSyntax}
-use Rattle.gft_model.specs.TokenFaults.{BreaksTokens}
+use Rattle.gft_model.specs.PortableFile
+use Rattle.gft_model.specs.Refusals.{Moment, IsFirst, IsAccepted, placeless}
+use Rattle.gft_model.specs.States.{Loaded, Sources, of_source}
 use Rattle.gft_model.specs.TypeFaults.{BreaksTypes}
+use Rattle.gft_pmcfg.specs.declared.concrete.Concrete.{Concrete as Compiled}
+use Rattle.gft_pmcfg.specs.declared.grammar.Grammar.{Grammar}
+use Rattle.gft_pmcfg.specs.declared.signature.Abstract.{Abstract as AbstractSyntax}
+use Rattle.gft_rules.specs.declared.refusal.Refusal.{Refusal}
+use Rattle.gft_rules.specs.declared.rule.Rule.TheVariants as R
+use Rattle.gft_syntax.specs.declared.flat.Flat.{Flat}
+use Rattle.gft_syntax.specs.declared.flat.FlatJudgement.{FlatJudgement}
+use Rattle.gft_syntax.specs.declared.linear.Typed.{Typed}
+use Rattle.gft_syntax.specs.declared.module.Header.TheVariants.{Abstract, Resource, Instance, Concrete}
+use Rattle.gft_syntax.specs.declared.module.Header.{Header}
+use Rattle.gft_syntax.specs.declared.module.Module.{Module}
+use Rattle.gft_syntax.specs.declared.reference.PlacedName.{PlacedName}
+use Rattle.gft_syntax.specs.declared.reference.Whole.{Whole}
 
--- limits: bytes of a source and of a portable file, modules of an import, categories
-abbrev pub most_bytes : ℕ
-most_bytes = 4194304
-
-abbrev pub most_portable_bytes : ℕ
-most_portable_bytes = 67108864
-
-abbrev pub most_modules : ℕ
-most_modules = 256
-
+-- the most categories of an abstract syntax
 abbrev pub most_categories : ℕ
 most_categories = 16384
-
--- the folder of a file name is its part up to and with the last slash
-abbrev pub folder_of : List ℕ → List ℕ
-folder_of [] = []
-folder_of (c ∷ cs) = if list_any (λ d. d == 47) (c ∷ cs) then c ∷ folder_of cs else []
-
--- the base name is the rest without its ending .gf; and the file of a module in a folder
-abbrev pub base_of : List ℕ → List ℕ
-base_of file = let rest = drop (length (folder_of file)) file in take (length rest - 3) rest
-
-abbrev pub file_in : List ℕ → List ℕ → List ℕ
-file_in folder M = folder ++ M ++ codes ".gf"
-
--- the modules that a header names, in the order of the text
-abbrev pub header_mentions : Header → List PlacedName
-header_mentions (Instance n i) = i ∷ []
-header_mentions (Concrete n a) = a ∷ []
-header_mentions (Incomplete n a) = a ∷ []
-header_mentions h = []
-
-abbrev pub substitution_mentions : Rest → List PlacedName
-substitution_mentions (With hs f ss b) = flat_map (λ s. s.interface ∷ s.instance ∷ []) ss
-substitution_mentions r = []
-
-abbrev pub mentions : Module → List PlacedName
-mentions m =
-    header_mentions m.header ++ map inherited_at (restricted_of m.rest) ++ substitution_mentions m.rest ++ map opened_at (opened_of m)
-
--- the files that are loaded, in the order of their numbers, and the modules whose loading is complete, in
--- that order
-pub record Loading : Type 0 where
-  pub files : List (List ℕ)
-  pub modules : List Module
-
--- the file has that number of its own
-abbrev pub with_file : Loading → List ℕ → Loading
-with_file s file = record { files = s.files ++ file ∷ []; modules = s.modules }
-
-abbrev pub with_module : Loading → Module → Loading
-with_module s m = record { files = s.files; modules = s.modules ++ m ∷ [] }
-
--- loading goes on, or is refused when these are loaded
-pub data Outcome : Type 0 where
-  loaded : Loading → Outcome
-  refused : Refusal → Loading → Outcome
-
--- as many modules are loaded as may be
-abbrev pub HasNoRoom : Loading → Type 0
-HasNoRoom s = most_modules ≤ length s.files
-
--- what a flaw is called
-abbrev pub flaw_text : Flaw → List ℕ
-flaw_text arity = codes "Arity"
-flaw_text index_type = codes "IndexType"
-flaw_text unproductive = codes "Unproductive"
-
--- the module is loaded
-abbrev pub IsLoaded : Loading → List ℕ → Type 0
-IsLoaded s M = (m : Module) × (module_named s.modules M ≡ Some m)
-
-module _ (files : Files) where
-  -- the file is read as a module of that name, where it is the next to be loaded
-  pub data Reads (s : Loading) (file M : List ℕ) : Module → Type 0 where
-    reads : {bytes : List ℕ} {ts : List SourceToken} {m : Module} → get files file ≡ Some bytes → length bytes ≤ most_bytes →
-        Tokens (length s.files) bytes ts → SpellsModule ts m → (header_name m.header).name ≡ M → Reads s file M m
-
-  -- why it is not
-  pub data Fails (s : Loading) (file M : List ℕ) : Refusal → Type 0 where
-    missing : get files file ≡ None → Fails s file M (placeless R.MissingFile (file ∷ []))
-    too_long : {bytes : List ℕ} → get files file ≡ Some bytes → most_bytes < length bytes → Fails s file M (placeless R.FileTooLong (file ∷ []))
-    bad_characters : {bytes : List ℕ} {r : Refusal} → get files file ≡ Some bytes → length bytes ≤ most_bytes →
-        IsFirst (ByPlace (BreaksTokens (length s.files) bytes)) r → Fails s file M r
-    bad_slices : {bytes : List ℕ} {ts : List SourceToken} {r : Refusal} → get files file ≡ Some bytes → length bytes ≤ most_bytes →
-        Tokens (length s.files) bytes ts → IsFirst (BreaksSyntax (length s.files) ts) r → Fails s file M r
-    misnamed : {bytes : List ℕ} {ts : List SourceToken} {m : Module} → get files file ≡ Some bytes → length bytes ≤ most_bytes →
-        Tokens (length s.files) bytes ts → SpellsModule ts m → (header_name m.header).name ≢ M →
-        Fails s file M (refusal R.NameMismatch (header_name m.header).place ((header_name m.header).name ∷ []))
-
-  mutual
-    -- a module is loaded from a folder, where others wait for it
-    pub data Loads (folder : List ℕ) : List (List ℕ) → Loading → List ℕ → Outcome → Type 0 where
-      fails : {M : List ℕ} {waiting : List (List ℕ)} {s : Loading} {r : Refusal} → Fails s (file_in folder M) M r →
-          Loads folder waiting s M (refused r (with_file s (file_in folder M)))
-      needs_refused : {M : List ℕ} {waiting : List (List ℕ)} {s t : Loading} {m : Module} {r : Refusal} → Reads s (file_in folder M) M m →
-          LoadsAll folder (M ∷ waiting) (with_file s (file_in folder M)) (mentions m) (refused r t) → Loads folder waiting s M (refused r t)
-      complete : {M : List ℕ} {waiting : List (List ℕ)} {s t : Loading} {m : Module} → Reads s (file_in folder M) M m →
-          LoadsAll folder (M ∷ waiting) (with_file s (file_in folder M)) (mentions m) (loaded t) →
-          Loads folder waiting s M (loaded (with_module t m))
-
-    -- the modules that a header names, in their order, each once
-    pub data LoadsAll (folder : List ℕ) : List (List ℕ) → Loading → List PlacedName → Outcome → Type 0 where
-      no_more : {waiting : List (List ℕ)} {s : Loading} → LoadsAll folder waiting s [] (loaded s)
-      loaded_before : {waiting : List (List ℕ)} {s : Loading} {n : PlacedName} {ns : List PlacedName} {o : Outcome} →
-          IsLoaded s n.name → LoadsAll folder waiting s ns o → LoadsAll folder waiting s (n ∷ ns) o
-      waits_for_it : {waiting : List (List ℕ)} {s : Loading} {n : PlacedName} {ns : List PlacedName} → Contains waiting n.name →
-          LoadsAll folder waiting s (n ∷ ns) (refused (refusal R.ModuleCycle n.place (n.name ∷ [])) s)
-      too_many : {waiting : List (List ℕ)} {s : Loading} {n : PlacedName} {ns : List PlacedName} → ¬ (IsLoaded s n.name) →
-          ¬ (Contains waiting n.name) → HasNoRoom s → LoadsAll folder waiting s (n ∷ ns) (refused (placeless R.TooManyModules []) s)
-      next_refused : {waiting : List (List ℕ)} {s t : Loading} {n : PlacedName} {ns : List PlacedName} {r : Refusal} → ¬ (IsLoaded s n.name) →
-          ¬ (Contains waiting n.name) → ¬ (HasNoRoom s) → Loads folder waiting s n.name (refused r t) →
-          LoadsAll folder waiting s (n ∷ ns) (refused r t)
-      next_loaded : {waiting : List (List ℕ)} {s t : Loading} {n : PlacedName} {ns : List PlacedName} {o : Outcome} → ¬ (IsLoaded s n.name) →
-          ¬ (Contains waiting n.name) → ¬ (HasNoRoom s) → Loads folder waiting s n.name (loaded t) → LoadsAll folder waiting t ns o →
-          LoadsAll folder waiting s (n ∷ ns) o
-
-  -- why a portable file is refused
-  pub data FailsPortable (file : List ℕ) : Refusal → Type 0 where
-    no_file : get files file ≡ None → FailsPortable file (placeless R.MissingFile (file ∷ []))
-    long_file : {bytes : List ℕ} → get files file ≡ Some bytes → most_portable_bytes < length bytes →
-        FailsPortable file (placeless R.FileTooLong (file ∷ []))
-    at_field : {bytes : List ℕ} {rule : Rule} {offset : ℕ} → get files file ≡ Some bytes → length bytes ≤ most_portable_bytes →
-        HasFault bytes rule offset → FailsPortable file (placeless rule (file ∷ decimal offset ∷ []))
-    is_invalid : {bytes : List ℕ} {flaw : Flaw} {offset : ℕ} → get files file ≡ Some bytes → length bytes ≤ most_portable_bytes →
-        IsInvalid bytes flaw offset → FailsPortable file (placeless R.Invalid (file ∷ decimal offset ∷ flaw_text flaw ∷ []))
-
-  -- the named files, in order: each source's module once, and each portable file
-  pub data LoadsNamed : Loading → List (List ℕ) → Outcome → Type 0 where
-    none_named : {s : Loading} → LoadsNamed s [] (loaded s)
-    known : {s : Loading} {file : List ℕ} {rest : List (List ℕ)} {o : Outcome} → EndsIn source_ending file → IsLoaded s (base_of file) →
-        LoadsNamed s rest o → LoadsNamed s (file ∷ rest) o
-    no_room : {s : Loading} {file : List ℕ} {rest : List (List ℕ)} → EndsIn source_ending file → ¬ (IsLoaded s (base_of file)) → HasNoRoom s →
-        LoadsNamed s (file ∷ rest) (refused (placeless R.TooManyModules []) s)
-    named_refused : {s t : Loading} {file : List ℕ} {rest : List (List ℕ)} {r : Refusal} → EndsIn source_ending file → ¬ (IsLoaded s (base_of file)) →
-        ¬ (HasNoRoom s) → Loads (folder_of file) [] s (base_of file) (refused r t) → LoadsNamed s (file ∷ rest) (refused r t)
-    named_loaded : {s t : Loading} {file : List ℕ} {rest : List (List ℕ)} {o : Outcome} → EndsIn source_ending file → ¬ (IsLoaded s (base_of file)) →
-        ¬ (HasNoRoom s) → Loads (folder_of file) [] s (base_of file) (loaded t) → LoadsNamed t rest o → LoadsNamed s (file ∷ rest) o
-    portable_refused : {s : Loading} {file : List ℕ} {rest : List (List ℕ)} {r : Refusal} → EndsIn portable_ending file → FailsPortable file r →
-        LoadsNamed s (file ∷ rest) (refused r s)
-    portable_read : {s : Loading} {file bytes : List ℕ} {g : Grammar} {rest : List (List ℕ)} {o : Outcome} → EndsIn portable_ending file →
-        get files file ≡ Some bytes → length bytes ≤ most_portable_bytes → PortableFile.Reads bytes g → LoadsNamed s rest o →
-        LoadsNamed s (file ∷ rest) o
 
 module _ (mods : List Module) where
   -- what judgements of a module may name, and for a concrete one what its abstract module has
@@ -251,13 +105,18 @@ pub data AbstractOf (mods : List Module) (file : List ℕ) : List ℕ → Type 0
 abbrev pub is_named : List (List ℕ) → Module → Bool
 is_named names m = list_any (λ file. bytes_eq (base_of file) (header_name m.header).name) names
 
-abbrev pub nothing_loaded : Loading
-nothing_loaded = record { files = []; modules = [] }
+-- the abstract syntax that a named file gives
+pub data HasPart (files : Files) (mods : List Module) (file : List ℕ) : AbstractSyntax → Type 0 where
+  of_its_source : {A : List ℕ} {m : Module} {cats funs : List FlatJudgement} {a : AbstractSyntax} → AbstractOf mods file A → module_named mods A ≡ Some m →
+      AreExactly mods cats (HasEntry mods categories A) → AreExactly mods funs (HasEntry mods functions A) →
+      IsAbstractPart cats funs (LeftOut mods funs) A (judgements_of m) a → HasPart files mods file a
+  of_portable : {bytes : List ℕ} {g : Grammar} → EndsIn portable_ending file → get files file ≡ Some bytes → PortableFile.Reads bytes g →
+      HasPart files mods file g.abs
 
--- the names of the loaded files by their numbers, as a refusal's place counts them
-pub data HasFiles (files : Files) (names : List (List ℕ)) : List (List ℕ) → Type 0 where
-  after_all : {s : Loading} → LoadsNamed files nothing_loaded names (loaded s) → HasFiles files names s.files
-  after_refusal : {s : Loading} {r : Refusal} → LoadsNamed files nothing_loaded names (refused r s) → HasFiles files names s.files
+-- the language of a named source that is a concrete module: its grammar, with what typing gives
+pub data HasLanguage (mods : List Module) (file : List ℕ) : List ℕ → Flat → Type 0 where
+  of_module : {m : Module} {n a : PlacedName} {flat : Flat} → module_named mods (base_of file) ≡ Some m → m.header ≡ Concrete n a →
+      IsView mods m flat → AreTyped flat → HasLanguage mods file n.name flat
 
 -- what is broken in an import of the named files, in order: loading, each module in turn, the number of
 -- categories, each language, and abstract modules that are not one
@@ -268,10 +127,34 @@ pub data BreaksImport (files : Files) (names : List (List ℕ)) : Moment → Ref
   too_many_categories : {s : Loading} {file A : List ℕ} {cats : List FlatJudgement} → LoadsNamed files nothing_loaded names (loaded s) →
       Contains names file → AbstractOf s.modules file A → AreExactly s.modules cats (HasEntry s.modules categories A) →
       most_categories < length cats → BreaksImport files names (2 ∷ []) (placeless R.TooManyCategories [])
-  in_language : {s : Loading} {i : ℕ} {file : List ℕ} {m : Module} {n a : PlacedName} {flat : Flat} {at : Moment} {r : Refusal} →
-      LoadsNamed files nothing_loaded names (loaded s) → slice_get names i ≡ Some file → module_named s.modules (base_of file) ≡ Some m →
-      m.header ≡ Concrete n a → IsView s.modules m flat → AreTyped flat → BreaksCompiling flat n.name at r →
+  in_language : {s : Loading} {i : ℕ} {file lang : List ℕ} {flat : Flat} {at : Moment} {r : Refusal} → LoadsNamed files nothing_loaded names (loaded s) →
+      slice_get names i ≡ Some file → HasLanguage s.modules file lang flat → BreaksCompiling flat lang at r →
       BreaksImport files names (3 ∷ i ∷ at) r
-  abstracts_differ : {s : Loading} {file A B : List ℕ} {rest : List (List ℕ)} (i : ℕ) {other : List ℕ} → LoadsNamed files nothing_loaded names (loaded s) →
-      names ≡ file ∷ rest → slice_get rest i ≡ Some other → AbstractOf s.modules file A → AbstractOf s.modules other B → A ≢ B →
+  abstracts_differ : {s : Loading} {file : List ℕ} {rest : List (List ℕ)} {a b : AbstractSyntax} (i : ℕ) {other : List ℕ} →
+      LoadsNamed files nothing_loaded names (loaded s) → names ≡ file ∷ rest → slice_get rest i ≡ Some other → HasPart files s.modules file a →
+      HasPart files s.modules other b → a ≢ b →
       BreaksImport files names (4 ∷ i ∷ []) (placeless R.AbstractsDiffer (file ∷ other ∷ []))
+
+-- an import comes to the load of a file where, without that file, this file is what is missing
+abbrev pub ComesTo : Files → List (List ℕ) → List ℕ → Type 0
+ComesTo files names file =
+    (s : Loading) × LoadsNamed (remove files file) nothing_loaded names (refused (placeless R.MissingFile (file ∷ [])) s)
+
+-- what a named source gives: its abstract syntax, and its language where it is a concrete module
+pub data GivesPart (files : Files) (names : List (List ℕ)) (file : List ℕ) : Loaded → Type 0 where
+  abstract_part : {s : Loading} {m : Module} {n : PlacedName} {a : AbstractSyntax} → LoadsNamed files nothing_loaded names (loaded s) →
+      module_named s.modules (base_of file) ≡ Some m → m.header ≡ Abstract n → HasPart files s.modules file a →
+      GivesPart files names file (record { abs = a; languages = [] })
+  with_language : {s : Loading} {lang : List ℕ} {flat : Flat} {a : AbstractSyntax} → LoadsNamed files nothing_loaded names (loaded s) →
+      HasLanguage s.modules file lang flat → HasPart files s.modules file a →
+      GivesPart files names file (record { abs = a; languages = (lang, of_source flat) ∷ [] })
+
+-- the imports of sources that the answers of a session speak of, by what a language compiles to
+abbrev pub sources_by : (Flat → List ℕ → Compiled → Type 0) → Sources
+sources_by Compiles = record {
+  accepts = λ files names. IsAccepted (BreaksImport files names);
+  refuses = λ files names r loaded_files. IsFirst (BreaksImport files names) r × HasFiles files names loaded_files;
+  loads = ComesTo;
+  gives = GivesPart;
+  compiles = Compiles;
+}

@@ -28,12 +28,12 @@ pub mod SyntaxFaults
 pub mod HeaderFaults
 pub mod NameFaults
 pub mod AbstractFaults
+pub mod AbstractParts
 pub mod CompileFaults
 pub mod TypeTexts
 pub mod TypingSites
 pub mod TypeFaults
 pub mod JudgementOrder
-pub mod Import
 pub mod SourceLaws
 pub mod Resting
 pub mod Layers
@@ -60,3 +60,6 @@ pub mod Replies
 pub mod Shell
 pub mod Output
 pub mod AnswerLaws
+pub mod LineLaws
+pub mod Loading
+pub mod Import

@@ -1,0 +1,177 @@
+-- The files of an import: which are loaded, in which order, and why loading is refused.
+use Rattle.std.specs.Prelude.{◌≡◌, ℕ, ◌-◌, ◌<◌, ◌≤◌, List, [], ◌∷◌, ◌++◌, map, flat_map, take, drop, length, ◌==◌, codes, decimal, Contains, Some, None, ◌≢◌, if◌then◌else◌}
+use Rattle.std.specs.FinMap.{get}
+use Rattle.std.specs.List.{list_any}
+use Rattle.gft_io.specs.Outside.{Files}
+use Rattle.gft_pmcfg.specs.declared.grammar.Grammar.{Grammar}
+use Rattle.gft_rules.specs.declared.refusal.Refusal.{Refusal}
+use Rattle.gft_rules.specs.declared.rule.Rule.{Rule}
+use Rattle.gft_rules.specs.declared.rule.Rule.TheVariants as R
+use Rattle.gft_syntax.specs.declared.module.Header.{Header}
+use Rattle.gft_syntax.specs.declared.module.Header.TheVariants.{Instance, Concrete, Incomplete}
+use Rattle.gft_syntax.specs.declared.module.Module.{Module}
+use Rattle.gft_syntax.specs.declared.module.Rest.{Rest}
+use Rattle.gft_syntax.specs.declared.module.Rest.TheVariants.{With}
+use Rattle.gft_syntax.specs.declared.reference.PlacedName.{PlacedName}
+use Rattle.gft_syntax.specs.declared.token.SourceToken.{SourceToken}
+use Rattle.gft_model.specs.Commands.{EndsIn, source_ending, portable_ending}
+use Rattle.gft_model.specs.Flaws.{Flaw, arity, index_type, unproductive}
+use Rattle.gft_model.specs.PortableFile
+use Rattle.gft_model.specs.PortableFile.{HasFault, IsInvalid}
+use Rattle.gft_model.specs.HeaderFaults.{inherited_at, opened_at, restricted_of}
+use Rattle.gft_model.specs.ModuleGrammar.{SpellsModule}
+use Rattle.gft_model.specs.Modules.{header_name, module_named, opened_of}
+use Rattle.gft_model.specs.Refusals.{ByPlace, IsFirst, refusal, placeless}
+use Rattle.gft_model.specs.Source.{Tokens}
+use Rattle.gft_model.specs.SyntaxFaults.{BreaksSyntax}
+use Rattle.gft_model.specs.TokenFaults.{BreaksTokens}
+
+-- limits: bytes of a source and of a portable file, modules of an import
+abbrev pub most_bytes : ℕ
+most_bytes = 4194304
+
+abbrev pub most_portable_bytes : ℕ
+most_portable_bytes = 67108864
+
+abbrev pub most_modules : ℕ
+most_modules = 256
+
+-- the folder of a file name is its part up to and with the last slash
+abbrev pub folder_of : List ℕ → List ℕ
+folder_of [] = []
+folder_of (c ∷ cs) = if list_any (λ d. d == 47) (c ∷ cs) then c ∷ folder_of cs else []
+
+-- the base name is the rest without its ending .gf; and the file of a module in a folder
+abbrev pub base_of : List ℕ → List ℕ
+base_of file = let rest = drop (length (folder_of file)) file in take (length rest - 3) rest
+
+abbrev pub file_in : List ℕ → List ℕ → List ℕ
+file_in folder M = folder ++ M ++ codes ".gf"
+
+-- the modules that a header names, in the order of the text
+abbrev pub header_mentions : Header → List PlacedName
+header_mentions (Instance n i) = i ∷ []
+header_mentions (Concrete n a) = a ∷ []
+header_mentions (Incomplete n a) = a ∷ []
+header_mentions h = []
+
+abbrev pub substitution_mentions : Rest → List PlacedName
+substitution_mentions (With hs f ss b) = flat_map (λ s. s.interface ∷ s.instance ∷ []) ss
+substitution_mentions r = []
+
+abbrev pub mentions : Module → List PlacedName
+mentions m =
+    header_mentions m.header ++ map inherited_at (restricted_of m.rest) ++ substitution_mentions m.rest ++ map opened_at (opened_of m)
+
+-- the files that are loaded, in the order of their numbers, and the modules whose loading is complete, in
+-- that order
+pub record Loading : Type 0 where
+  pub files : List (List ℕ)
+  pub modules : List Module
+
+-- the file has that number of its own
+abbrev pub with_file : Loading → List ℕ → Loading
+with_file s file = record { files = s.files ++ file ∷ []; modules = s.modules }
+
+abbrev pub with_module : Loading → Module → Loading
+with_module s m = record { files = s.files; modules = s.modules ++ m ∷ [] }
+
+-- loading goes on, or is refused when these are loaded
+pub data Outcome : Type 0 where
+  loaded : Loading → Outcome
+  refused : Refusal → Loading → Outcome
+
+-- as many modules are loaded as may be
+abbrev pub HasNoRoom : Loading → Type 0
+HasNoRoom s = most_modules ≤ length s.files
+
+-- what a flaw is called
+abbrev pub flaw_text : Flaw → List ℕ
+flaw_text arity = codes "Arity"
+flaw_text index_type = codes "IndexType"
+flaw_text unproductive = codes "Unproductive"
+
+-- the module is loaded
+abbrev pub IsLoaded : Loading → List ℕ → Type 0
+IsLoaded s M = (m : Module) × (module_named s.modules M ≡ Some m)
+
+module _ (files : Files) where
+  -- the file is read as a module of that name, where it is the next to be loaded
+  pub data Reads (s : Loading) (file M : List ℕ) : Module → Type 0 where
+    reads : {bytes : List ℕ} {ts : List SourceToken} {m : Module} → get files file ≡ Some bytes → length bytes ≤ most_bytes →
+        Tokens (length s.files) bytes ts → SpellsModule ts m → (header_name m.header).name ≡ M → Reads s file M m
+
+  -- why it is not
+  pub data Fails (s : Loading) (file M : List ℕ) : Refusal → Type 0 where
+    missing : get files file ≡ None → Fails s file M (placeless R.MissingFile (file ∷ []))
+    too_long : {bytes : List ℕ} → get files file ≡ Some bytes → most_bytes < length bytes → Fails s file M (placeless R.FileTooLong (file ∷ []))
+    bad_characters : {bytes : List ℕ} {r : Refusal} → get files file ≡ Some bytes → length bytes ≤ most_bytes →
+        IsFirst (ByPlace (BreaksTokens (length s.files) bytes)) r → Fails s file M r
+    bad_slices : {bytes : List ℕ} {ts : List SourceToken} {r : Refusal} → get files file ≡ Some bytes → length bytes ≤ most_bytes →
+        Tokens (length s.files) bytes ts → IsFirst (BreaksSyntax (length s.files) ts) r → Fails s file M r
+    misnamed : {bytes : List ℕ} {ts : List SourceToken} {m : Module} → get files file ≡ Some bytes → length bytes ≤ most_bytes →
+        Tokens (length s.files) bytes ts → SpellsModule ts m → (header_name m.header).name ≢ M →
+        Fails s file M (refusal R.NameMismatch (header_name m.header).place ((header_name m.header).name ∷ []))
+
+  mutual
+    -- a module is loaded from a folder, where others wait for it
+    pub data Loads (folder : List ℕ) : List (List ℕ) → Loading → List ℕ → Outcome → Type 0 where
+      fails : {M : List ℕ} {waiting : List (List ℕ)} {s : Loading} {r : Refusal} → Fails s (file_in folder M) M r →
+          Loads folder waiting s M (refused r (with_file s (file_in folder M)))
+      needs_refused : {M : List ℕ} {waiting : List (List ℕ)} {s t : Loading} {m : Module} {r : Refusal} → Reads s (file_in folder M) M m →
+          LoadsAll folder (M ∷ waiting) (with_file s (file_in folder M)) (mentions m) (refused r t) → Loads folder waiting s M (refused r t)
+      complete : {M : List ℕ} {waiting : List (List ℕ)} {s t : Loading} {m : Module} → Reads s (file_in folder M) M m →
+          LoadsAll folder (M ∷ waiting) (with_file s (file_in folder M)) (mentions m) (loaded t) →
+          Loads folder waiting s M (loaded (with_module t m))
+
+    -- the modules that a header names, in their order, each once
+    pub data LoadsAll (folder : List ℕ) : List (List ℕ) → Loading → List PlacedName → Outcome → Type 0 where
+      no_more : {waiting : List (List ℕ)} {s : Loading} → LoadsAll folder waiting s [] (loaded s)
+      loaded_before : {waiting : List (List ℕ)} {s : Loading} {n : PlacedName} {ns : List PlacedName} {o : Outcome} →
+          IsLoaded s n.name → LoadsAll folder waiting s ns o → LoadsAll folder waiting s (n ∷ ns) o
+      waits_for_it : {waiting : List (List ℕ)} {s : Loading} {n : PlacedName} {ns : List PlacedName} → Contains waiting n.name →
+          LoadsAll folder waiting s (n ∷ ns) (refused (refusal R.ModuleCycle n.place (n.name ∷ [])) s)
+      too_many : {waiting : List (List ℕ)} {s : Loading} {n : PlacedName} {ns : List PlacedName} → ¬ (IsLoaded s n.name) →
+          ¬ (Contains waiting n.name) → HasNoRoom s → LoadsAll folder waiting s (n ∷ ns) (refused (placeless R.TooManyModules []) s)
+      next_refused : {waiting : List (List ℕ)} {s t : Loading} {n : PlacedName} {ns : List PlacedName} {r : Refusal} → ¬ (IsLoaded s n.name) →
+          ¬ (Contains waiting n.name) → ¬ (HasNoRoom s) → Loads folder waiting s n.name (refused r t) →
+          LoadsAll folder waiting s (n ∷ ns) (refused r t)
+      next_loaded : {waiting : List (List ℕ)} {s t : Loading} {n : PlacedName} {ns : List PlacedName} {o : Outcome} → ¬ (IsLoaded s n.name) →
+          ¬ (Contains waiting n.name) → ¬ (HasNoRoom s) → Loads folder waiting s n.name (loaded t) → LoadsAll folder waiting t ns o →
+          LoadsAll folder waiting s (n ∷ ns) o
+
+  -- why a portable file is refused
+  pub data FailsPortable (file : List ℕ) : Refusal → Type 0 where
+    no_file : get files file ≡ None → FailsPortable file (placeless R.MissingFile (file ∷ []))
+    long_file : {bytes : List ℕ} → get files file ≡ Some bytes → most_portable_bytes < length bytes →
+        FailsPortable file (placeless R.FileTooLong (file ∷ []))
+    at_field : {bytes : List ℕ} {rule : Rule} {offset : ℕ} → get files file ≡ Some bytes → length bytes ≤ most_portable_bytes →
+        HasFault bytes rule offset → FailsPortable file (placeless rule (file ∷ decimal offset ∷ []))
+    is_invalid : {bytes : List ℕ} {flaw : Flaw} {offset : ℕ} → get files file ≡ Some bytes → length bytes ≤ most_portable_bytes →
+        IsInvalid bytes flaw offset → FailsPortable file (placeless R.Invalid (file ∷ decimal offset ∷ flaw_text flaw ∷ []))
+
+  -- the named files, in order: each source's module once, and each portable file
+  pub data LoadsNamed : Loading → List (List ℕ) → Outcome → Type 0 where
+    none_named : {s : Loading} → LoadsNamed s [] (loaded s)
+    known : {s : Loading} {file : List ℕ} {rest : List (List ℕ)} {o : Outcome} → EndsIn source_ending file → IsLoaded s (base_of file) →
+        LoadsNamed s rest o → LoadsNamed s (file ∷ rest) o
+    no_room : {s : Loading} {file : List ℕ} {rest : List (List ℕ)} → EndsIn source_ending file → ¬ (IsLoaded s (base_of file)) → HasNoRoom s →
+        LoadsNamed s (file ∷ rest) (refused (placeless R.TooManyModules []) s)
+    named_refused : {s t : Loading} {file : List ℕ} {rest : List (List ℕ)} {r : Refusal} → EndsIn source_ending file → ¬ (IsLoaded s (base_of file)) →
+        ¬ (HasNoRoom s) → Loads (folder_of file) [] s (base_of file) (refused r t) → LoadsNamed s (file ∷ rest) (refused r t)
+    named_loaded : {s t : Loading} {file : List ℕ} {rest : List (List ℕ)} {o : Outcome} → EndsIn source_ending file → ¬ (IsLoaded s (base_of file)) →
+        ¬ (HasNoRoom s) → Loads (folder_of file) [] s (base_of file) (loaded t) → LoadsNamed t rest o → LoadsNamed s (file ∷ rest) o
+    portable_refused : {s : Loading} {file : List ℕ} {rest : List (List ℕ)} {r : Refusal} → EndsIn portable_ending file → FailsPortable file r →
+        LoadsNamed s (file ∷ rest) (refused r s)
+    portable_read : {s : Loading} {file bytes : List ℕ} {g : Grammar} {rest : List (List ℕ)} {o : Outcome} → EndsIn portable_ending file →
+        get files file ≡ Some bytes → length bytes ≤ most_portable_bytes → PortableFile.Reads bytes g → LoadsNamed s rest o →
+        LoadsNamed s (file ∷ rest) o
+
+-- before the first file
+abbrev pub nothing_loaded : Loading
+nothing_loaded = record { files = []; modules = [] }
+
+-- the names of the loaded files by their numbers, as a refusal's place counts them
+pub data HasFiles (files : Files) (names : List (List ℕ)) : List (List ℕ) → Type 0 where
+  after_all : {s : Loading} → LoadsNamed files nothing_loaded names (loaded s) → HasFiles files names s.files
+  after_refusal : {s : Loading} {r : Refusal} → LoadsNamed files nothing_loaded names (refused r s) → HasFiles files names s.files
