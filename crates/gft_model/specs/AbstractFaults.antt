@@ -156,8 +156,10 @@ module _ (cats funs : List FlatJudgement) (LeftOut : Whole → Type 0) where
 
   -- how many indices a category takes, and how many arguments a function or a variable
   pub data TakesIndices (Γ : Arguments) : Reference → ℕ → Type 0 where
-    of_category : {w : Whole} {n : PlacedName} {cs : List Context} → Declares cats w (J.Cat n cs) → TakesIndices Γ (WholeName w) (context_count cs)
-    of_list : {w : Whole} {n : PlacedName} {r : Reference} {k : ℕ} {p : Place} → Declares cats w (J.ListCat n r k p) → TakesIndices Γ (WholeName w) 0
+    of_category : {w : Whole} {n : PlacedName} {cs : List Context} → Declares cats w (J.Cat n cs) →
+        TakesIndices Γ (WholeName w) (context_count cs)
+    of_list : {w : Whole} {n : PlacedName} {r : Reference} {k : ℕ} {p : Place} → Declares cats w (J.ListCat n r k p) →
+        TakesIndices Γ (WholeName w) 0
     of_built_in : {r : Reference} → IsBuiltIn Γ r → TakesIndices Γ r 0
 
   pub data TakesArguments : Reference → ℕ → Type 0 where
@@ -171,24 +173,29 @@ module _ (cats funs : List FlatJudgement) (LeftOut : Whole → Type 0) where
       indexed : {Γ : Arguments} {e h : Term} {es : List Term} {w : Whole} {As : List Indexed} {ts : List Tree} → Spine e [] h es →
           head_name (out-Term h) ≡ Some (WholeName w) → HasContext w As → IndicesAre Γ es [] As ts →
           ReadsType Γ e (record { category = w.name; indices = ts })
-      built_in : {Γ : Arguments} {e : Term} {x : List ℕ} {p : Place} → out-Term e ≡ T.Var (Written x) p → IsBuiltIn Γ (Written x) →
+      built_in : {Γ : Arguments} {e : Term} {x : List ℕ} {p : Place} → out-Term e ≡ T.Var (Written x) p →
+          IsBuiltIn Γ (Written x) →
           ReadsType Γ e (record { category = x; indices = [] })
 
     -- the types of a context: the arguments so far, those with it, and its types
     pub data ReadsContext : Arguments → List Context → Arguments → List Indexed → Type 0 where
       no_context : {Γ : Arguments} → ReadsContext Γ [] Γ []
-      more_context : {Γ Δ : Arguments} {c : Context} {cs : List Context} {A : Indexed} {As : List Indexed} → ReadsType Γ c.of_type A →
+      more_context : {Γ Δ : Arguments} {c : Context} {cs : List Context} {A : Indexed} {As : List Indexed} →
+          ReadsType Γ c.of_type A →
           ReadsContext (with_arguments_of c.binds A Γ) cs Δ As → ReadsContext Γ (c ∷ cs) Δ (for_each c.binds A ++ As)
 
     -- the types of the indices of a category
     pub data HasContext : Whole → List Indexed → Type 0 where
-      its_context : {w : Whole} {n : PlacedName} {cs : List Context} {Γ : Arguments} {As : List Indexed} → Declares cats w (J.Cat n cs) →
+      its_context : {w : Whole} {n : PlacedName} {cs : List Context} {Γ : Arguments} {As : List Indexed} →
+          Declares cats w (J.Cat n cs) →
           ReadsContext no_arguments cs Γ As → HasContext w As
-      of_a_list : {w : Whole} {n : PlacedName} {r : Reference} {k : ℕ} {p : Place} → Declares cats w (J.ListCat n r k p) → HasContext w []
+      of_a_list : {w : Whole} {n : PlacedName} {r : Reference} {k : ℕ} {p : Place} → Declares cats w (J.ListCat n r k p) →
+          HasContext w []
 
     -- a term is the type of a function
     pub data ReadsFunction : Arguments → Term → List Indexed → Indexed → Type 0 where
-      takes : {Γ : Arguments} {e a b : Term} {xs : List Bind} {p : Place} {A B : Indexed} {As : List Indexed} → out-Term e ≡ T.Arrow xs a b p →
+      takes : {Γ : Arguments} {e a b : Term} {xs : List Bind} {p : Place} {A B : Indexed} {As : List Indexed} →
+          out-Term e ≡ T.Arrow xs a b p →
           ReadsType Γ a A → ReadsFunction (with_arguments_of xs A Γ) b As B → ReadsFunction Γ e (for_each xs A ++ As) B
       gives : {Γ : Arguments} {e : Term} {B : Indexed} → ReadsType Γ e B → ReadsFunction Γ e [] B
 
@@ -202,20 +209,23 @@ module _ (cats funs : List FlatJudgement) (LeftOut : Whole → Type 0) where
 
     -- a term is the tree, as an index, and has the type
     pub data IndexIs : Arguments → Term → Tree → Indexed → Type 0 where
-      variable : {Γ : Arguments} {e : Term} {x : List ℕ} {p : Place} {k : ℕ} {A : Indexed} → out-Term e ≡ T.Var (Written x) p → field_of x Γ.variables ≡ Some (k, A) →
+      variable : {Γ : Arguments} {e : Term} {x : List ℕ} {p : Place} {k : ℕ} {A : Indexed} →
+          out-Term e ≡ T.Var (Written x) p → field_of x Γ.variables ≡ Some (k, A) →
           IndexIs Γ e (roll-Tree (Tree-F.Hole k)) A
       number : {Γ : Arguments} {e : Term} {n : ℕ} {p : Place} → out-Term e ≡ T.Num n p →
           IndexIs Γ e (roll-Tree (Tree-F.Int n)) (record { category = codes "Int"; indices = [] })
       text : {Γ : Arguments} {e : Term} {s : List ℕ} {p : Place} → out-Term e ≡ T.Lit s p → IsWord s →
           IndexIs Γ e (roll-Tree (Tree-F.Str s)) (record { category = codes "String"; indices = [] })
-      application : {Γ : Arguments} {e h : Term} {es : List Term} {w : Whole} {p : Place} {As : List Indexed} {B : Indexed} {ts : List Tree} → Spine e [] h es →
+      application : {Γ : Arguments} {e h : Term} {es : List Term} {w : Whole} {p : Place} {As : List Indexed} {B : Indexed}
+          {ts : List Tree} → Spine e [] h es →
           out-Term h ≡ T.Var (WholeName w) p → HasSignature w As B → IndicesAre Γ es [] As ts →
           IndexIs Γ e (roll-Tree (Tree-F.App w.name ts)) (indexed_at ts B)
 
     -- terms are the trees, of the types, of which each is over the trees before it
     pub data IndicesAre : Arguments → List Term → List Tree → List Indexed → List Tree → Type 0 where
       no_index : {Γ : Arguments} {before : List Tree} → IndicesAre Γ [] before [] []
-      one_index : {Γ : Arguments} {e : Term} {es : List Term} {t : Tree} {before ts : List Tree} {A : Indexed} {As : List Indexed} → IndexIs Γ e t (indexed_at before A) →
+      one_index : {Γ : Arguments} {e : Term} {es : List Term} {t : Tree} {before ts : List Tree} {A : Indexed} {As : List Indexed} →
+          IndexIs Γ e t (indexed_at before A) →
           IndicesAre Γ es (before ++ t ∷ []) As ts → IndicesAre Γ (e ∷ es) before (A ∷ As) (t ∷ ts)
 
   -- the type that the next index of the application f must have, where f is a type or not
@@ -223,24 +233,29 @@ module _ (cats funs : List FlatJudgement) (LeftOut : Whole → Type 0) where
     by_category : {f h : Term} {es : List Term} {w : Whole} {As : List Indexed} {A : Indexed} {ts : List Tree} → Spine f [] h es →
         head_name (out-Term h) ≡ Some (WholeName w) → HasContext w As → IndicesAre Γ es [] (take (length es) As) ts →
         slice_get As (length es) ≡ Some A → Expects Γ true f (indexed_at ts A)
-    by_function : {f h : Term} {es : List Term} {w : Whole} {As : List Indexed} {A B : Indexed} {ts : List Tree} → Spine f [] h es →
+    by_function : {f h : Term} {es : List Term} {w : Whole} {As : List Indexed} {A B : Indexed} {ts : List Tree} →
+        Spine f [] h es →
         head_name (out-Term h) ≡ Some (WholeName w) → HasSignature w As B → IndicesAre Γ es [] (take (length es) As) ts →
         slice_get As (length es) ≡ Some A → Expects Γ false f (indexed_at ts A)
 
   -- a term of the judgement, where it stands
   pub data StandsIn (j : Judgement) : Moment → Arguments → Term → Role → Type 0 where
     function_type : {ns : List PlacedName} {t : Term} → j ≡ J.Fun ns t → StandsIn j (1 ∷ []) no_arguments t type_role
-    in_context : {n : PlacedName} (before : List Context) (c : Context) (after : List Context) {Γ : Arguments} {As : List Indexed} →
+    in_context : {n : PlacedName} (before : List Context) (c : Context) (after : List Context) {Γ : Arguments}
+        {As : List Indexed} →
         j ≡ J.Cat n (before ++ c ∷ after) → ReadsContext no_arguments before Γ As →
         StandsIn j (suc (length before) ∷ []) Γ c.of_type argument_role
     argument : {path : Moment} {Γ : Arguments} {e a b : Term} {r : Role} {xs : List Bind} {p : Place} → StandsIn j path Γ e r →
         is_type_role r ≡ true → out-Term e ≡ T.Arrow xs a b p → StandsIn j (path ++ 1 ∷ []) Γ a argument_role
-    result : {path : Moment} {Γ : Arguments} {e a b : Term} {r : Role} {xs : List Bind} {p : Place} {A : Indexed} → StandsIn j path Γ e r →
+    result : {path : Moment} {Γ : Arguments} {e a b : Term} {r : Role} {xs : List Bind} {p : Place} {A : Indexed} →
+        StandsIn j path Γ e r →
         is_type_role r ≡ true → out-Term e ≡ T.Arrow xs a b p → ReadsType Γ a A →
         StandsIn j (path ++ 2 ∷ []) (with_arguments_of xs A Γ) b type_role
-    head : {path : Moment} {Γ : Arguments} {e f a : Term} {r : Role} {p : Place} → StandsIn j path Γ e r → out-Term e ≡ T.App f a p →
+    head : {path : Moment} {Γ : Arguments} {e f a : Term} {r : Role} {p : Place} → StandsIn j path Γ e r →
+        out-Term e ≡ T.App f a p →
         StandsIn j (path ++ 1 ∷ []) Γ f (head_of r)
-    index : {path : Moment} {Γ : Arguments} {e f a : Term} {r : Role} {p : Place} → StandsIn j path Γ e r → out-Term e ≡ T.App f a p →
+    index : {path : Moment} {Γ : Arguments} {e f a : Term} {r : Role} {p : Place} → StandsIn j path Γ e r →
+        out-Term e ≡ T.App f a p →
         StandsIn j (path ++ 2 ∷ []) Γ a (role_after r f)
     elsewhere : {path : Moment} {Γ : Arguments} {e : Term} {r : Role} (k : ℕ) {a : _} → StandsIn j path Γ e r →
         is_application (out-Term e) ≡ false → (is_type_role r ≡ false) ⊎ (is_arrow (out-Term e) ≡ false) →
@@ -250,23 +265,31 @@ module _ (cats funs : List FlatJudgement) (LeftOut : Whole → Type 0) where
   pub data BreaksIndexed (Γ : Arguments) (e : Term) : Role → Rule → List (List ℕ) → Type 0 where
     takes_function : is_arrow (out-Term e) ≡ true → BreaksIndexed Γ e argument_role R.HigherOrder []
     lacking_form : {r : Role} → is_abstract_form (out-Term e) ≡ false → BreaksIndexed Γ e r R.NotAbstract []
-    no_head : {r : Role} → (is_arrow (out-Term e) ≡ true) ⊎ (is_literal (out-Term e) ≡ true) → BreaksIndexed Γ e (head_role r) R.NotAbstract []
+    no_head : {r : Role} → (is_arrow (out-Term e) ≡ true) ⊎ (is_literal (out-Term e) ≡ true) →
+        BreaksIndexed Γ e (head_role r) R.NotAbstract []
     literal_type : {r : Role} → is_type_role r ≡ true → is_literal (out-Term e) ≡ true → BreaksIndexed Γ e r R.NotAbstract []
     arrow_index : {r : Role} → is_index_role r ≡ true → is_arrow (out-Term e) ≡ true → BreaksIndexed Γ e r R.NotAbstract []
-    list_index : {r : Role} {n : Reference} {p : Place} → is_index_role r ≡ true → out-Term e ≡ T.ListCat n p → BreaksIndexed Γ e r R.NotAbstract []
+    list_index : {r : Role} {n : Reference} {p : Place} → is_index_role r ≡ true → out-Term e ≡ T.ListCat n p →
+        BreaksIndexed Γ e r R.NotAbstract []
     long_text_index : {r : Role} {s : List ℕ} {p : Place} → is_index_role r ≡ true → out-Term e ≡ T.Lit s p → ¬ (IsWord s) →
         BreaksIndexed Γ e r R.NotAbstract []
     no_function_index : {r : Role} {n : Reference} {p : Place} → is_index_role r ≡ true → out-Term e ≡ T.Var n p →
-        ((w : Whole) × (n ≡ WholeName w) × ¬ (IsFunction w) × ¬ (LeftOut w)) ⊎ IsBuiltIn Γ n → BreaksIndexed Γ e r R.NotAbstract []
-    left_out_index : {r : Role} {w : Whole} {p : Place} → is_index_role r ≡ true → out-Term e ≡ T.Var (WholeName w) p → ¬ (IsFunction w) →
+        ((w : Whole) × (n ≡ WholeName w) × ¬ (IsFunction w) × ¬ (LeftOut w)) ⊎ IsBuiltIn Γ n →
+        BreaksIndexed Γ e r R.NotAbstract []
+    left_out_index : {r : Role} {w : Whole} {p : Place} → is_index_role r ≡ true → out-Term e ≡ T.Var (WholeName w) p →
+        ¬ (IsFunction w) →
         LeftOut w → BreaksIndexed Γ e r R.Unknown (w.name ∷ [])
     no_category : {r : Role} {n : Reference} → is_type_role r ≡ true → head_name (out-Term e) ≡ Some n →
         ¬ ((w : Whole) × (n ≡ WholeName w) × IsCategory w) → ¬ (IsBuiltIn Γ n) → BreaksIndexed Γ e r R.UnknownCat (name_of n ∷ [])
-    wrong_indices : {h : Term} {r : Role} {es : List Term} {n : Reference} {k : ℕ} → is_type_role r ≡ true → is_head r ≡ false → Spine e [] h es →
+    wrong_indices : {h : Term} {r : Role} {es : List Term} {n : Reference} {k : ℕ} → is_type_role r ≡ true →
+        is_head r ≡ false → Spine e [] h es →
         head_name (out-Term h) ≡ Some n → TakesIndices Γ n k → length es ≢ k → BreaksIndexed Γ e r R.Arity (name_of n ∷ [])
-    wrong_arguments : {h : Term} {r : Role} {es : List Term} {n : Reference} {p : Place} {k : ℕ} → is_index_role r ≡ true → is_head r ≡ false →
-        Spine e [] h es → out-Term h ≡ T.Var n p → TakesArguments n k → length es ≢ k → BreaksIndexed Γ e r R.Arity (name_of n ∷ [])
-    index_of_another_type : {f : Term} {is_type : Bool} {t : Tree} {A B : Indexed} → Expects Γ is_type f A → IndexIs Γ e t B → A ≢ B →
+    wrong_arguments : {h : Term} {r : Role} {es : List Term} {n : Reference} {p : Place} {k : ℕ} →
+        is_index_role r ≡ true → is_head r ≡ false →
+        Spine e [] h es → out-Term h ≡ T.Var n p → TakesArguments n k → length es ≢ k →
+        BreaksIndexed Γ e r R.Arity (name_of n ∷ [])
+    index_of_another_type : {f : Term} {is_type : Bool} {t : Tree} {A B : Indexed} → Expects Γ is_type f A →
+        IndexIs Γ e t B → A ≢ B →
         BreaksIndexed Γ e (index_role is_type f) R.IndexType (indexed_text A ∷ indexed_text B ∷ [])
 
   -- what is broken in the types of an abstract judgement
@@ -276,5 +299,6 @@ module _ (cats funs : List FlatJudgement) (LeftOut : Whole → Type 0) where
     list_of_no_category : {n : PlacedName} {r : Reference} {k : ℕ} {p : Place} → j ≡ J.ListCat n r k p →
         ¬ ((w : Whole) × (r ≡ WholeName w) × IsCategory w) → ¬ (IsBuiltIn no_arguments r) →
         BreaksAbstract j (0 ∷ []) (refusal R.UnknownCat n.place (n.name ∷ []))
-    list_of_indexed : {n : PlacedName} {r : Reference} {k m : ℕ} {p : Place} → j ≡ J.ListCat n r k p → TakesIndices no_arguments r (suc m) →
+    list_of_indexed : {n : PlacedName} {r : Reference} {k m : ℕ} {p : Place} → j ≡ J.ListCat n r k p →
+        TakesIndices no_arguments r (suc m) →
         BreaksAbstract j (0 ∷ []) (refusal R.Arity n.place (n.name ∷ []))

@@ -103,6 +103,7 @@ pub data BreaksCompiling (flat : Flat) (lang : List ℕ) : Moment → Refusal �
   is_stuck : {k : Keyword} {x : List ℕ} {cases : List (List Outcome)} {stuck : Stuck} → Evaluates flat lang k x cases →
       first_stuck (flat_map (λ os. os) cases) ≡ Some stuck →
       BreaksCompiling flat lang (turn_of k x ++ 1 ∷ []) (refusal (stuck_rule stuck.rule) stuck.place (lang ∷ x ∷ []))
-  too_many_results : {k : Keyword} {x : List ℕ} {cases : List (List Outcome)} {n : ℕ} {p : Place} → Evaluates flat lang k x cases →
+  too_many_results : {k : Keyword} {x : List ℕ} {cases : List (List Outcome)} {n : ℕ} {p : Place} →
+      Evaluates flat lang k x cases →
       HasResults cases n → most_results < n → StandsAt flat lang k x p →
       BreaksCompiling flat lang (turn_of k x ++ 2 ∷ []) (refusal R.TooManyProductions p (lang ∷ x ∷ []))

@@ -184,7 +184,8 @@ module _ (mods : List Module) where
         BreaksHeader named m (16 ∷ place_moment n.place) (refusal R.WrongKind n.place (n.name ∷ []))
     functor_of_no_concrete : {f : Inherited} {ss : List Substitution} {o : Module} →
         IsWith m f ss → is_concrete m.header ≡ false → Is mods (inherited_name f) o → is_incomplete o.header ≡ true →
-        BreaksHeader named m (16 ∷ place_moment (inherited_at f).place) (refusal R.WrongKind (inherited_at f).place (inherited_name f ∷ []))
+        BreaksHeader named m (16 ∷ place_moment (inherited_at f).place)
+        (refusal R.WrongKind (inherited_at f).place (inherited_name f ∷ []))
     judgement_of_wrong_kind : {j : Judgement} {n : PlacedName} {ns : List PlacedName} →
         Contains (judgements_of m) j → may_stand j m.header ≡ false → placed_names j ≡ n ∷ ns →
         BreaksHeader named m (16 ∷ place_moment n.place) (refusal R.WrongKind n.place (n.name ∷ []))

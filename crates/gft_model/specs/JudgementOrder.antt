@@ -38,7 +38,8 @@ answered (Some k) e = []
 pub data NeedsType (funs : List FlatJudgement) (e : FlatJudgement) : List ℕ → Type 0 where
   of_argument : {s : Signature} {C : List ℕ} → sort_of e.judgement ≡ Some K.Lin → signature_in funs e.whole.name ≡ Some s →
       Contains s.arguments C → NeedsType funs e C
-  of_result : {s : Signature} → sort_of e.judgement ≡ Some K.Lin → signature_in funs e.whole.name ≡ Some s → NeedsType funs e s.result
+  of_result : {s : Signature} → sort_of e.judgement ≡ Some K.Lin → signature_in funs e.whole.name ≡ Some s →
+      NeedsType funs e s.result
   of_lindef : sort_of e.judgement ≡ Some K.Lindef → NeedsType funs e e.whole.name
   of_linref : sort_of e.judgement ≡ Some K.Linref → NeedsType funs e e.whole.name
 
@@ -46,25 +47,30 @@ pub data NeedsType (funs : List FlatJudgement) (e : FlatJudgement) : List ℕ �
 pub data RestsOn (es funs : List FlatJudgement) : FlatJudgement → FlatJudgement → Type 0 where
   by_name : {e f : FlatJudgement} {w : Whole} → Contains es e → Contains es f → Contains (names_within e.judgement) w →
       Contains (answered (sort_of f.judgement) f) w → RestsOn es funs e f
-  by_lincat : {e f : FlatJudgement} {C : List ℕ} → Contains es e → Contains es f → NeedsType funs e C → sort_of f.judgement ≡ Some K.Lincat →
+  by_lincat : {e f : FlatJudgement} {C : List ℕ} → Contains es e → Contains es f → NeedsType funs e C →
+      sort_of f.judgement ≡ Some K.Lincat →
       f.whole.name ≡ C → RestsOn es funs e f
   through : {e f g : FlatJudgement} → RestsOn es funs e f → RestsOn es funs f g → RestsOn es funs e g
 
 -- those of the judgements that one rests on and that do not rest on it, in the same order
 pub data Before (es funs : List FlatJudgement) (e : FlatJudgement) : List FlatJudgement → List FlatJudgement → Type 0 where
   none : Before es funs e [] []
-  needed : {f : FlatJudgement} {fs ns : List FlatJudgement} → RestsOn es funs e f → ¬ (RestsOn es funs f e) → Before es funs e fs ns →
+  needed : {f : FlatJudgement} {fs ns : List FlatJudgement} → RestsOn es funs e f → ¬ (RestsOn es funs f e) →
+      Before es funs e fs ns →
       Before es funs e (f ∷ fs) (f ∷ ns)
-  not_needed : {f : FlatJudgement} {fs ns : List FlatJudgement} → ¬ (RestsOn es funs e f × ¬ (RestsOn es funs f e)) → Before es funs e fs ns →
+  not_needed : {f : FlatJudgement} {fs ns : List FlatJudgement} → ¬ (RestsOn es funs e f × ¬ (RestsOn es funs f e)) →
+      Before es funs e fs ns →
       Before es funs e (f ∷ fs) ns
 
 -- the turns of judgements where some are typed already: at the turn of each come first, in the same way,
 -- those that it rests on and that do not rest on it
 pub data Turns (es funs list : List FlatJudgement) : List FlatJudgement → List FlatJudgement → List FlatJudgement → Type 0 where
   no_turn : {typed : List FlatJudgement} → Turns es funs list typed [] []
-  typed_already : {typed rest order : List FlatJudgement} {e : FlatJudgement} → Contains typed e → Turns es funs list typed rest order →
+  typed_already : {typed rest order : List FlatJudgement} {e : FlatJudgement} → Contains typed e →
+      Turns es funs list typed rest order →
       Turns es funs list typed (e ∷ rest) order
-  its_turn : {typed rest first later needed : List FlatJudgement} {e : FlatJudgement} → ¬ (Contains typed e) → Before es funs e list needed →
+  its_turn : {typed rest first later needed : List FlatJudgement} {e : FlatJudgement} → ¬ (Contains typed e) →
+      Before es funs e list needed →
       Turns es funs list typed needed first → Turns es funs list (typed ++ first ++ e ∷ []) rest later →
       Turns es funs list typed (e ∷ rest) (first ++ e ∷ later)
 
@@ -103,21 +109,26 @@ module _ (mods : List Module) where
 
     pub data Inherits : List Inherited → Listing → Type 0 where
       no_module : Inherits [] []
-      from_module : {h : Inherited} {hs : List Inherited} {is cs os rest : Listing} → IsListed (inherited_name h) is cs os → Inherits hs rest →
+      from_module : {h : Inherited} {hs : List Inherited} {is cs os rest : Listing} →
+          IsListed (inherited_name h) is cs os → Inherits hs rest →
           Inherits (h ∷ hs) (filter (λ e. lets_through h e.0) (is ++ cs ++ os) ++ rest)
 
     pub data Copies : List ℕ → Module → Listing → Type 0 where
-      of_interface : {M : List ℕ} {m : Module} {n i : PlacedName} {is cs os ks : Listing} → m.header ≡ Instance n i → IsListed i.name is cs os → Kept m (is ++ cs ++ os) ks →
+      of_interface : {M : List ℕ} {m : Module} {n i : PlacedName} {is cs os ks : Listing} → m.header ≡ Instance n i →
+          IsListed i.name is cs os → Kept m (is ++ cs ++ os) ks →
           Copies M m (copied M ks)
-      of_functor : {M : List ℕ} {m : Module} {hs : List Inherited} {f : Inherited} {ss : List Substitution} {b : Option Body} {is cs os : Listing} → m.rest ≡ With hs f ss b →
+      of_functor : {M : List ℕ} {m : Module} {hs : List Inherited} {f : Inherited} {ss : List Substitution} {b : Option Body}
+          {is cs os : Listing} → m.rest ≡ With hs f ss b →
           IsListed (inherited_name f) is cs os → Copies M m (copied M (filter (λ e. lets_through f e.0) (is ++ cs ++ os)))
       no_copies : {M : List ℕ} {m : Module} → ((n i : PlacedName) → ¬ (m.header ≡ Instance n i)) →
-          ((hs : List Inherited) (f : Inherited) (ss : List Substitution) (b : Option Body) → ¬ (m.rest ≡ With hs f ss b)) → Copies M m []
+          ((hs : List Inherited) (f : Inherited) (ss : List Substitution) (b : Option Body) →
+          ¬ (m.rest ≡ With hs f ss b)) → Copies M m []
 
   -- the judgements of a listing with their names replaced, but for flags
   pub data AreEntries : Listing → List FlatJudgement → Type 0 where
     no_entry : AreEntries [] []
-    one_entry : {x : List ℕ} {d : Declared} {e : FlatJudgement} {ls : Listing} {es : List FlatJudgement} → IsEntry mods x d e → AreEntries ls es →
+    one_entry : {x : List ℕ} {d : Declared} {e : FlatJudgement} {ls : Listing} {es : List FlatJudgement} →
+        IsEntry mods x d e → AreEntries ls es →
         AreEntries ((x, d) ∷ ls) (e ∷ es)
 
 -- inherited linearizations are typed again: lincats, lindefs, linrefs, then lins

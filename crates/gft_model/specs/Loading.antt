@@ -61,7 +61,8 @@ substitution_mentions r = []
 
 abbrev pub mentions : Module → List PlacedName
 mentions m =
-    header_mentions m.header ++ map inherited_at (restricted_of m.rest) ++ substitution_mentions m.rest ++ map opened_at (opened_of m)
+    header_mentions m.header ++ map inherited_at (restricted_of m.rest) ++ substitution_mentions m.rest
+    ++ map opened_at (opened_of m)
 
 -- the files that are loaded, in the order of their numbers, and the modules whose loading is complete, in
 -- that order
@@ -104,10 +105,12 @@ module _ (files : Files) where
   -- why it is not
   pub data Fails (s : Loading) (file M : List ℕ) : Refusal → Type 0 where
     missing : get files file ≡ None → Fails s file M (placeless R.MissingFile (file ∷ []))
-    too_long : {bytes : List ℕ} → get files file ≡ Some bytes → most_bytes < length bytes → Fails s file M (placeless R.FileTooLong (file ∷ []))
+    too_long : {bytes : List ℕ} → get files file ≡ Some bytes → most_bytes < length bytes →
+        Fails s file M (placeless R.FileTooLong (file ∷ []))
     bad_characters : {bytes : List ℕ} {r : Refusal} → get files file ≡ Some bytes → length bytes ≤ most_bytes →
         IsFirst (ByPlace (BreaksTokens (length s.files) bytes)) r → Fails s file M r
-    bad_slices : {bytes : List ℕ} {ts : List SourceToken} {r : Refusal} → get files file ≡ Some bytes → length bytes ≤ most_bytes →
+    bad_slices : {bytes : List ℕ} {ts : List SourceToken} {r : Refusal} → get files file ≡ Some bytes →
+        length bytes ≤ most_bytes →
         Tokens (length s.files) bytes ts → IsFirst (BreaksSyntax (length s.files) ts) r → Fails s file M r
     misnamed : {bytes : List ℕ} {ts : List SourceToken} {m : Module} → get files file ≡ Some bytes → length bytes ≤ most_bytes →
         Tokens (length s.files) bytes ts → SpellsModule ts m → (header_name m.header).name ≢ M →
@@ -118,8 +121,10 @@ module _ (files : Files) where
     pub data Loads (folder : List ℕ) : List (List ℕ) → Loading → List ℕ → Outcome → Type 0 where
       fails : {M : List ℕ} {waiting : List (List ℕ)} {s : Loading} {r : Refusal} → Fails s (file_in folder M) M r →
           Loads folder waiting s M (refused r (with_file s (file_in folder M)))
-      needs_refused : {M : List ℕ} {waiting : List (List ℕ)} {s t : Loading} {m : Module} {r : Refusal} → Reads s (file_in folder M) M m →
-          LoadsAll folder (M ∷ waiting) (with_file s (file_in folder M)) (mentions m) (refused r t) → Loads folder waiting s M (refused r t)
+      needs_refused : {M : List ℕ} {waiting : List (List ℕ)} {s t : Loading} {m : Module} {r : Refusal} →
+          Reads s (file_in folder M) M m →
+          LoadsAll folder (M ∷ waiting) (with_file s (file_in folder M)) (mentions m) (refused r t) →
+          Loads folder waiting s M (refused r t)
       complete : {M : List ℕ} {waiting : List (List ℕ)} {s t : Loading} {m : Module} → Reads s (file_in folder M) M m →
           LoadsAll folder (M ∷ waiting) (with_file s (file_in folder M)) (mentions m) (loaded t) →
           Loads folder waiting s M (loaded (with_module t m))
@@ -132,12 +137,16 @@ module _ (files : Files) where
       waits_for_it : {waiting : List (List ℕ)} {s : Loading} {n : PlacedName} {ns : List PlacedName} → Contains waiting n.name →
           LoadsAll folder waiting s (n ∷ ns) (refused (refusal R.ModuleCycle n.place (n.name ∷ [])) s)
       too_many : {waiting : List (List ℕ)} {s : Loading} {n : PlacedName} {ns : List PlacedName} → ¬ (IsLoaded s n.name) →
-          ¬ (Contains waiting n.name) → HasNoRoom s → LoadsAll folder waiting s (n ∷ ns) (refused (placeless R.TooManyModules []) s)
-      next_refused : {waiting : List (List ℕ)} {s t : Loading} {n : PlacedName} {ns : List PlacedName} {r : Refusal} → ¬ (IsLoaded s n.name) →
+          ¬ (Contains waiting n.name) → HasNoRoom s →
+          LoadsAll folder waiting s (n ∷ ns) (refused (placeless R.TooManyModules []) s)
+      next_refused : {waiting : List (List ℕ)} {s t : Loading} {n : PlacedName} {ns : List PlacedName} {r : Refusal} →
+          ¬ (IsLoaded s n.name) →
           ¬ (Contains waiting n.name) → ¬ (HasNoRoom s) → Loads folder waiting s n.name (refused r t) →
           LoadsAll folder waiting s (n ∷ ns) (refused r t)
-      next_loaded : {waiting : List (List ℕ)} {s t : Loading} {n : PlacedName} {ns : List PlacedName} {o : Outcome} → ¬ (IsLoaded s n.name) →
-          ¬ (Contains waiting n.name) → ¬ (HasNoRoom s) → Loads folder waiting s n.name (loaded t) → LoadsAll folder waiting t ns o →
+      next_loaded : {waiting : List (List ℕ)} {s t : Loading} {n : PlacedName} {ns : List PlacedName} {o : Outcome} →
+          ¬ (IsLoaded s n.name) →
+          ¬ (Contains waiting n.name) → ¬ (HasNoRoom s) → Loads folder waiting s n.name (loaded t) →
+          LoadsAll folder waiting t ns o →
           LoadsAll folder waiting s (n ∷ ns) o
 
   -- why a portable file is refused
@@ -153,17 +162,24 @@ module _ (files : Files) where
   -- the named files, in order: each source's module once, and each portable file
   pub data LoadsNamed : Loading → List (List ℕ) → Outcome → Type 0 where
     none_named : {s : Loading} → LoadsNamed s [] (loaded s)
-    known : {s : Loading} {file : List ℕ} {rest : List (List ℕ)} {o : Outcome} → EndsIn source_ending file → IsLoaded s (base_of file) →
+    known : {s : Loading} {file : List ℕ} {rest : List (List ℕ)} {o : Outcome} → EndsIn source_ending file →
+        IsLoaded s (base_of file) →
         LoadsNamed s rest o → LoadsNamed s (file ∷ rest) o
-    no_room : {s : Loading} {file : List ℕ} {rest : List (List ℕ)} → EndsIn source_ending file → ¬ (IsLoaded s (base_of file)) → HasNoRoom s →
+    no_room : {s : Loading} {file : List ℕ} {rest : List (List ℕ)} → EndsIn source_ending file →
+        ¬ (IsLoaded s (base_of file)) → HasNoRoom s →
         LoadsNamed s (file ∷ rest) (refused (placeless R.TooManyModules []) s)
-    named_refused : {s t : Loading} {file : List ℕ} {rest : List (List ℕ)} {r : Refusal} → EndsIn source_ending file → ¬ (IsLoaded s (base_of file)) →
+    named_refused : {s t : Loading} {file : List ℕ} {rest : List (List ℕ)} {r : Refusal} → EndsIn source_ending file →
+        ¬ (IsLoaded s (base_of file)) →
         ¬ (HasNoRoom s) → Loads (folder_of file) [] s (base_of file) (refused r t) → LoadsNamed s (file ∷ rest) (refused r t)
-    named_loaded : {s t : Loading} {file : List ℕ} {rest : List (List ℕ)} {o : Outcome} → EndsIn source_ending file → ¬ (IsLoaded s (base_of file)) →
-        ¬ (HasNoRoom s) → Loads (folder_of file) [] s (base_of file) (loaded t) → LoadsNamed t rest o → LoadsNamed s (file ∷ rest) o
-    portable_refused : {s : Loading} {file : List ℕ} {rest : List (List ℕ)} {r : Refusal} → EndsIn portable_ending file → FailsPortable file r →
+    named_loaded : {s t : Loading} {file : List ℕ} {rest : List (List ℕ)} {o : Outcome} → EndsIn source_ending file →
+        ¬ (IsLoaded s (base_of file)) →
+        ¬ (HasNoRoom s) → Loads (folder_of file) [] s (base_of file) (loaded t) → LoadsNamed t rest o →
+        LoadsNamed s (file ∷ rest) o
+    portable_refused : {s : Loading} {file : List ℕ} {rest : List (List ℕ)} {r : Refusal} → EndsIn portable_ending file →
+        FailsPortable file r →
         LoadsNamed s (file ∷ rest) (refused r s)
-    portable_read : {s : Loading} {file bytes : List ℕ} {g : Grammar} {rest : List (List ℕ)} {o : Outcome} → EndsIn portable_ending file →
+    portable_read : {s : Loading} {file bytes : List ℕ} {g : Grammar} {rest : List (List ℕ)} {o : Outcome} →
+        EndsIn portable_ending file →
         get files file ≡ Some bytes → length bytes ≤ most_portable_bytes → PortableFile.Reads bytes g → LoadsNamed s rest o →
         LoadsNamed s (file ∷ rest) o
 

@@ -216,23 +216,30 @@ module _ (mods : List Module) (m : Module) where
         ¬ ((is_abstract m.header ≡ true) × (q ≡ None) × IsBuiltIn x) → BreaksUse constructors j p R.Unknown x []
     heads_nothing : {q : Option (List ℕ)} {x : List ℕ} {p : Place} {hidden : Bool} → Heads constructors j q x p hidden →
         (hidden ≡ true) ⊎ ¬ (MeansConstructor q x) → BreaksUse constructors j p R.Unknown x []
-    variable_as_type : {x : List ℕ} {p : Place} → is_abstract m.header ≡ false → Contains (sites_of constructors j) (a_variable_type x p) →
+    variable_as_type : {x : List ℕ} {p : Place} → is_abstract m.header ≡ false →
+        Contains (sites_of constructors j) (a_variable_type x p) →
         BreaksUse constructors j p R.Unknown x []
-    word_alone : {w : List ℕ} {p : Place} → Contains (sites_of constructors j) (a_word w p) → BreaksUse constructors j p R.Unknown w []
-    ambiguous_use : {q : Option (List ℕ)} {x : List ℕ} {p : Place} {one other : Opened} → Uses constructors j q x p → TwoGive q x one other →
+    word_alone : {w : List ℕ} {p : Place} → Contains (sites_of constructors j) (a_word w p) →
+        BreaksUse constructors j p R.Unknown w []
+    ambiguous_use : {q : Option (List ℕ)} {x : List ℕ} {p : Place} {one other : Opened} → Uses constructors j q x p →
+        TwoGive q x one other →
         BreaksUse constructors j p R.Ambiguous x (one ∷ other ∷ [])
     ambiguous_head : {q : Option (List ℕ)} {x : List ℕ} {p : Place} {one other : Opened} → Heads constructors j q x p false →
         MeansConstructor q x → TwoGive q x one other → BreaksUse constructors j p R.Ambiguous x (one ∷ other ∷ [])
     ambiguous_leaf : {xs : Locals} {r : Pattern} {x : List ℕ} {p : Place} {one other : Opened} → HasPattern constructors j xs r →
         out-Pattern r ≡ P.Name (Written x) p → is_local x xs ≡ false → MeansConstructor None x → TwoGive None x one other →
         BreaksUse constructors j p R.Ambiguous x (one ∷ other ∷ [])
-    bound_twice : {xs : Locals} {r : Pattern} (before middle after : Bound) {x : List ℕ} (a : Place) {b : Place} → HasPattern constructors j xs r →
-        bound_in (is_bound constructors xs) r ≡ before ++ (x, a) ∷ middle ++ (x, b) ∷ after → BreaksUse constructors j b R.PatternVars x []
+    bound_twice : {xs : Locals} {r : Pattern} (before middle after : Bound) {x : List ℕ} (a : Place) {b : Place} →
+        HasPattern constructors j xs r →
+        bound_in (is_bound constructors xs) r ≡ before ++ (x, a) ∷ middle ++ (x, b) ∷ after →
+        BreaksUse constructors j b R.PatternVars x []
     bound_on_one_side : {xs : Locals} {r p q one other : Pattern} {x : List ℕ} {a b : Place} → HasPattern constructors j xs r →
         out-Pattern r ≡ P.Or p q a → ((one ≡ p) × (other ≡ q)) ⊎ ((one ≡ q) × (other ≡ p)) →
-        Contains (bound_in (is_bound constructors xs) one) (x, b) → ((c : Place) → ¬ (Contains (bound_in (is_bound constructors xs) other) (x, c))) →
+        Contains (bound_in (is_bound constructors xs) one) (x, b) →
+        ((c : Place) → ¬ (Contains (bound_in (is_bound constructors xs) other) (x, c))) →
         BreaksUse constructors j b R.PatternVars x []
-    bound_in_star : {xs : Locals} {r p : Pattern} {x : List ℕ} {a b : Place} → HasPattern constructors j xs r → out-Pattern r ≡ P.Star p a →
+    bound_in_star : {xs : Locals} {r p : Pattern} {x : List ℕ} {a b : Place} → HasPattern constructors j xs r →
+        out-Pattern r ≡ P.Star p a →
         Contains (bound_in (is_bound constructors xs) p) (x, b) → BreaksUse constructors j b R.PatternVars x []
 
   -- the moment: by place, at one place by number, and of ambiguous meanings the first that differ
@@ -244,7 +251,9 @@ module _ (mods : List Module) (m : Module) where
   pub data BreaksNames (constructors : List ℕ → Bool) : Moment → Refusal → Type 0 where
     in_judgement : {j : Judgement} {p : Place} {rule : Rule} {x : List ℕ} {os : List Opened} → Contains (judgements_of m) j →
         BreaksUse constructors j p rule x os →
-        BreaksNames constructors (place_moment p ++ code_of rule ∷ opened_moment os) (refusal rule p (x ∷ map (λ o. (opened_at o).name) os))
-    abstract_lacks : {k : Keyword} {n : PlacedName} {A : List ℕ} → Contains (own_names m) (Some k, n) → abstract_name m.header ≡ Some A →
+        BreaksNames constructors (place_moment p ++ code_of rule ∷ opened_moment os)
+        (refusal rule p (x ∷ map (λ o. (opened_at o).name) os))
+    abstract_lacks : {k : Keyword} {n : PlacedName} {A : List ℕ} → Contains (own_names m) (Some k, n) →
+        abstract_name m.header ≡ Some A →
         ((d : Declared) (j : Judgement) → Has mods A n.name d → Writes mods d j → part_of n.name j ≢ Some (wanted_part k)) →
         BreaksNames constructors (place_moment n.place ++ code_of R.Unknown ∷ []) (refusal R.Unknown n.place (n.name ∷ []))

@@ -131,8 +131,15 @@ body_keyword kind = None
 abbrev pub open_after : ℕ → Tokens → ℕ
 open_after n [] = n
 open_after n (t ∷ ts) =
-    open_after (elim (mark_of t.form) [ opening ↦ suc n | closing_brace ↦ n - 1 | closing ↦ n - 1 | let_word ↦ n
-    | in_word ↦ n | semicolon ↦ n | other ↦ n ]) ts
+    open_after (elim (mark_of t.form) [
+      | opening ↦ suc n
+      | closing_brace ↦ n - 1
+      | closing ↦ n - 1
+      | let_word ↦ n
+      | in_word ↦ n
+      | semicolon ↦ n
+      | other ↦ n
+    ]) ts
 
 -- limits of a slice: brackets that are open at once, and the height of a term
 abbrev pub most_open : ℕ

@@ -158,11 +158,13 @@ module _ (flat : Flat) where
   -- a name where a type must stand that no type was given to
   abbrev pub IsUndefinedType : Whole → Type 0
   IsUndefinedType v = Contains (items flat) (bare_parameter v)
-      ⊎ ((k : ℕ) × (t : Term) × (S : CType) × Stands (items flat) v (an_oper k (Some t) None) × IsType (items flat) t S × IsSort S)
+      ⊎ ((k : ℕ) × (t : Term) × (S : CType) × Stands (items flat) v (an_oper k (Some t) None) × IsType (items flat) t S
+      × IsSort S)
 
   -- what is broken at a term that must be a type of the sort
   pub data BreaksSort (Γ : Scope) (e : Term) (S : CType) : Rule → List (List ℕ) → Type 0 where
-    undefined_type : {v : Whole} {p : Place} → form e ≡ T.Var (WholeName v) p → IsUndefinedType v → BreaksSort Γ e S R.Unknown (v.name ∷ [])
+    undefined_type : {v : Whole} {p : Place} → form e ≡ T.Var (WholeName v) p → IsUndefinedType v →
+        BreaksSort Γ e S R.Unknown (v.name ∷ [])
     form_of_no_type : {t : LinTerm} → Checks (items flat) Γ e S t → may_be_type (form e) ≡ false → BreaksSort Γ e S R.NoType []
     too_many_values : {A : CType} {v : Whole} {p : Place} → form e ≡ T.Var (WholeName v) p → IsParameter (items flat) v A →
         most_values < count_of A → BreaksSort Γ e S R.ParamTooLarge (type_text A ∷ [])
@@ -192,7 +194,8 @@ module _ (flat : Flat) where
       over_given : {cs : List (Case Term)} {p : Place} {F A V : CType} → form e ≡ T.TableOf None cs p → Given m F →
           table_in (out-CType F) ≡ Some (A, V) → IsOver A false
       over_selector : {cs : List (Case Term)} {p : Place} {A : CType} → form e ≡ T.TableOf None cs p → m ≡ over A → IsOver A true
-      over_case : {b : Term} {cs : List (Case Term)} {p : Place} {A : CType} → form e ≡ T.CaseOf b cs p → FoundFor flat b Γ A → IsOver A true
+      over_case : {b : Term} {cs : List (Case Term)} {p : Place} {A : CType} → form e ≡ T.CaseOf b cs p →
+          FoundFor flat b Γ A → IsOver A true
 
     -- what is broken at a term once its parts were looked at
     pub data BreaksTerm : Rule → List (List ℕ) → Type 0 where
@@ -205,40 +208,50 @@ module _ (flat : Flat) where
           IsType (items flat) t B → B ≢ A → BreaksTerm R.Mismatch (type_text F ∷ type_text (table_type B V) ∷ [])
       table_where_none_is_given : {t : Term} {F B : CType} → Given m F → table_in (out-CType F) ≡ None → WritesDomain e t →
           FoundFor flat e Γ B → BreaksTerm R.Mismatch (type_text F ∷ type_text B ∷ [])
-      type_for_record : {ls : List (Local Term)} {p : Place} {A : CType} → Given m A → is_record (out-CType A) ≡ true → form e ≡ T.Fields ls p →
-          list_all is_value ls ≡ false → FoundFor flat e Γ sort_type → BreaksTerm R.Mismatch (type_text A ∷ type_text sort_type ∷ [])
+      type_for_record : {ls : List (Local Term)} {p : Place} {A : CType} → Given m A → is_record (out-CType A) ≡ true →
+          form e ≡ T.Fields ls p →
+          list_all is_value ls ≡ false → FoundFor flat e Γ sort_type →
+          BreaksTerm R.Mismatch (type_text A ∷ type_text sort_type ∷ [])
       projects_no_record : {a : Term} {x : List ℕ} {p : Place} {A : CType} → form e ≡ T.Proj a x p → FoundFor flat a Γ A →
           is_record (out-CType A) ≡ false → BreaksTerm R.NotRecord (type_text A ∷ [])
       projects_no_field : {a : Term} {x : List ℕ} {p : Place} {A : CType} → form e ≡ T.Proj a x p → FoundFor flat a Γ A →
           is_record (out-CType A) ≡ true → field_of x (fields_in (out-CType A)) ≡ None → BreaksTerm R.NoField (x ∷ [])
-      extends_no_record : {a b : Term} {p : Place} {A B C : CType} → form e ≡ T.Extend a b p → FoundFor flat a Γ A → FoundFor flat b Γ B →
-          is_record (out-CType C) ≡ false → (C ≡ A) ⊎ ((C ≡ B) × (is_record (out-CType A) ≡ true)) → BreaksTerm R.NotRecord (type_text C ∷ [])
+      extends_no_record : {a b : Term} {p : Place} {A B C : CType} → form e ≡ T.Extend a b p → FoundFor flat a Γ A →
+          FoundFor flat b Γ B →
+          is_record (out-CType C) ≡ false → (C ≡ A) ⊎ ((C ≡ B) × (is_record (out-CType A) ≡ true)) →
+          BreaksTerm R.NotRecord (type_text C ∷ [])
       record_lacks : {A : CType} {ls : List (List ℕ)} {x : List ℕ} → Given m A → record_labels (form e) ≡ Some ls →
           first_absent ls (labels (fields_in (out-CType A))) ≡ Some x → BreaksTerm R.NoField (x ∷ [])
       selects_from_no_table : {a b : Term} {p : Place} {A : CType} → form e ≡ T.Select a b p → FoundFor flat a Γ A →
           table_in (out-CType A) ≡ None → BreaksTerm R.NotTable (type_text A ∷ [])
       applies_no_function : {f a : Term} {p : Place} {A : CType} → m ≢ unasked → form e ≡ T.App f a p → ¬ (IsOverloaded flat f) →
           FoundFor flat f Γ A → function_in (out-CType A) ≡ None → BreaksTerm R.NotFunction (type_text A ∷ [])
-      function_for_data : {F A B : CType} → (r ≡ data_wanted) ⊎ (r ≡ finite_wanted) → Has F → function_in (out-CType F) ≡ Some (A, B) →
+      function_for_data : {F A B : CType} → (r ≡ data_wanted) ⊎ (r ≡ finite_wanted) → Has F →
+          function_in (out-CType F) ≡ Some (A, B) →
           BreaksTerm R.FunctionHere []
       argument_not_finite : {A : CType} → r ≡ finite_wanted → IsType (items flat) e A → is_finite A ≡ false →
           BreaksTerm R.NotFinite (type_text A ∷ [])
-      table_type_over : {a b : Term} {p : Place} {A : CType} → form e ≡ T.TabType a b p → IsType (items flat) a A → is_finite A ≡ false →
+      table_type_over : {a b : Term} {p : Place} {A : CType} → form e ≡ T.TabType a b p → IsType (items flat) a A →
+          is_finite A ≡ false →
           BreaksTerm R.NotFinite (type_text A ∷ [])
       table_over : {A : CType} {text : Bool} → IsOver A text → is_finite A ≡ false → ¬ ((text ≡ true) × (A ≡ str_type)) →
           BreaksTerm R.NotFinite (type_text A ∷ [])
-      too_many_numbers : {f a : Term} {n : ℕ} {p q : Place} → form e ≡ T.App f a p → is_ints (form f) ≡ true → form a ≡ T.Num n q →
+      too_many_numbers : {f a : Term} {n : ℕ} {p q : Place} → form e ≡ T.App f a p → is_ints (form f) ≡ true →
+          form a ≡ T.Num n q →
           most_values < n + 1 → BreaksTerm R.ParamTooLarge (type_text (number_type n) ∷ [])
-      table_type_too_large : {a b : Term} {p : Place} {A : CType} → form e ≡ T.TabType a b p → IsType (items flat) a A → is_finite A ≡ true →
+      table_type_too_large : {a b : Term} {p : Place} {A : CType} → form e ≡ T.TabType a b p → IsType (items flat) a A →
+          is_finite A ≡ true →
           most_values < count_of A → BreaksTerm R.ParamTooLarge (type_text A ∷ [])
       table_too_large : {A : CType} {text : Bool} → IsOver A text → is_finite A ≡ true → most_values < count_of A →
           BreaksTerm R.ParamTooLarge (type_text A ∷ [])
       value_left_out : {A : CType} {text : Bool} {v : Param} → IsOver A text → IsDomain A → LeavesOut e A v →
           BreaksTerm R.NotExhaustive (param_text v ∷ [])
-      no_alternative : {v : Whole} {es : List Term} {As : List CType} {us : List LinTerm} → m ≢ unasked → HasOverload flat e v es →
+      no_alternative : {v : Whole} {es : List Term} {As : List CType} {us : List LinTerm} → m ≢ unasked →
+          HasOverload flat e v es →
           FindsAll (items flat) Γ es As us → ((k : ℕ) (B : CType) (u : LinTerm) → ¬ (Suits (items flat) v As us k B u)) →
           BreaksTerm R.NoOverload (v.name ∷ [])
-      many_alternatives : {v : Whole} {es : List Term} {As : List CType} {us : List LinTerm} {i k : ℕ} {B C : CType} {t u : LinTerm} →
+      many_alternatives : {v : Whole} {es : List Term} {As : List CType} {us : List LinTerm} {i k : ℕ} {B C : CType}
+          {t u : LinTerm} →
           m ≢ unasked → HasOverload flat e v es → FindsAll (items flat) Γ es As us → Suits (items flat) v As us i B t →
           Suits (items flat) v As us k C u → i ≢ k → BreaksTerm R.ManyOverloads (v.name ∷ [])
 
@@ -257,11 +270,13 @@ module _ (flat : Flat) where
         BreaksPatternEarly p A R.NotFunction (type_text B ∷ [])
     pattern_of_no_record : {ls : List (List ℕ)} → pattern_labels (pattern_form p) ≡ Some ls → is_record (out-CType A) ≡ false →
         BreaksPatternEarly p A R.NotRecord (type_text A ∷ [])
-    pattern_of_no_field : {ls : List (List ℕ)} {x : List ℕ} → pattern_labels (pattern_form p) ≡ Some ls → is_record (out-CType A) ≡ true →
+    pattern_of_no_field : {ls : List (List ℕ)} {x : List ℕ} → pattern_labels (pattern_form p) ≡ Some ls →
+        is_record (out-CType A) ≡ true →
         first_absent (labels (fields_in (out-CType A))) ls ≡ Some x → BreaksPatternEarly p A R.NoField (x ∷ [])
 
   pub data BreaksPattern (p : Pattern) (A : CType) : Rule → List (List ℕ) → Type 0 where
-    pattern_does_not_fit : {B : CType} → PatternHas p B → ¬ (IsSubtype B A) → BreaksPattern p A R.Mismatch (type_text A ∷ type_text B ∷ [])
+    pattern_does_not_fit : {B : CType} → PatternHas p B → ¬ (IsSubtype B A) →
+        BreaksPattern p A R.Mismatch (type_text A ∷ type_text B ∷ [])
     variable_of_two_types : {q r : Pattern} {B C : CType} {a : Place} (Γ Δ after : Scope) (before : Scope) (x : List ℕ) →
         pattern_form p ≡ P.Or q r a → PatternFits A q Γ → PatternFits A r Δ → Γ ≡ before ++ (x, B) ∷ after →
         All (λ f. field_of f.0 Δ ≡ Some f.1) before → field_of x Δ ≡ Some C → B ≢ C →
@@ -269,10 +284,13 @@ module _ (flat : Flat) where
 
   -- what is broken in the types of the judgement of that whole name, in a language
   pub data BreaksTypes (lang : List ℕ) (w : Whole) (j : Judgement) : Moment → Refusal → Type 0 where
-    needs_itself : {i k : Item} {n : PlacedName} {ns : List PlacedName} {rule : Rule} → Contains (items flat) i → Contains (items flat) k →
-        Contains (answers_to i) w → Contains (answers_to k) w → Rests (items flat) i k → placed_names j ≡ n ∷ ns → cycle_rule j ≡ Some rule →
+    needs_itself : {i k : Item} {n : PlacedName} {ns : List PlacedName} {rule : Rule} → Contains (items flat) i →
+        Contains (items flat) k →
+        Contains (answers_to i) w → Contains (answers_to k) w → Rests (items flat) i k → placed_names j ≡ n ∷ ns →
+        cycle_rule j ≡ Some rule →
         BreaksTypes lang w j (0 ∷ 0 ∷ []) (refusal rule n.place (n.name ∷ []))
-    overload_with_arguments : {ns : List PlacedName} {x : Bind} {xs : List Bind} {ds : List Alternative} → j ≡ J.Oper ns (x ∷ xs) (D.Overload ds) →
+    overload_with_arguments : {ns : List PlacedName} {x : Bind} {xs : List Bind} {ds : List Alternative} →
+        j ≡ J.Oper ns (x ∷ xs) (D.Overload ds) →
         BreaksTypes lang w j (0 ∷ 1 ∷ []) (refusal R.NoType (bind_place x) [])
     at_term_early : {at : Moment} {Γ : Scope} {e : Term} {m : Mode} {r : Role} {rule : Rule} {names : List (List ℕ)} →
         StandsIn flat (judgement_sites lang w.name j) at Γ (a_term e) m r → BreaksEarly e m rule names →
@@ -283,7 +301,8 @@ module _ (flat : Flat) where
     at_type : {at : Moment} {Γ : Scope} {e : Term} {S : CType} {r : Role} {rule : Rule} {names : List (List ℕ)} →
         StandsIn flat (judgement_sites lang w.name j) at Γ (a_term e) (as_type S) r → BreaksSort Γ e S rule names →
         BreaksTypes lang w j at (refusal rule (place_of e) names)
-    at_definition : {e : Term} {S : CType} {rule : Rule} {names : List (List ℕ)} → unwritten j ≡ Some e → FoundFor flat e [] S → IsSort S →
+    at_definition : {e : Term} {S : CType} {rule : Rule} {names : List (List ℕ)} → unwritten j ≡ Some e →
+        FoundFor flat e [] S → IsSort S →
         BreaksSort [] e S rule names → BreaksTypes lang w j (1 ∷ []) (refusal rule (place_of e) names)
     at_pattern_early : {at : Moment} {Γ : Scope} {p : Pattern} {A : CType} {r : Role} {rule : Rule} {names : List (List ℕ)} →
         StandsIn flat (judgement_sites lang w.name j) at Γ (a_pattern p) (given A) r → BreaksPatternEarly p A rule names →
