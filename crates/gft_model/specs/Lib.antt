@@ -60,6 +60,5 @@ pub mod Replies
 pub mod Shell
 pub mod Output
 pub mod AnswerLaws
-pub mod LineLaws
 pub mod Loading
 pub mod Import
