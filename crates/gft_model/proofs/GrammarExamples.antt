@@ -19,7 +19,7 @@ use Rattle.gft_model.specs.Runs as runs
 use Rattle.gft_model.specs.Runs.{IsKept, MayBeHole}
 use Rattle.gft_model.specs.Fields.{Fits}
 use Rattle.gft_model.specs.FileForms.{FunctionFields, heading, symbol, concrete, file}
-use Rattle.gft_model.specs.PortableFile.{file_bytes, heading_fields, function_fields, concrete_fields, fields_of, listed, IsGrammar, IsReduced, Reads, IsInvalid, HasFault, of_field, IsFlawed, of_category, of_production}
+use Rattle.gft_model.specs.PortableFile.{file_bytes, heading_fields, function_fields, concrete_fields, fields_of, listed, IsGrammar, IsReduced, Reads, IsInvalid, HasFault, of_field, IsFlawed, of_category, of_function, of_production}
 use Rattle.gft_model.proofs.RunLemmas.{all_none, all_one, all_from}
 use Rattle.gft_model.proofs.Tiny.{abs, eng}
 use Rattle.gft_model.proofs.Grammars.{dead, barren_eng}
@@ -176,6 +176,26 @@ lacking_is_invalid = record {
   bytes_are = refl;
   flawed = lacks_index;
 }
+
+-- a function whose argument lacks an index: heading 25, `A` 9, `B` 17 bytes, the function `a` 17
+abbrev careless : Abstract
+careless = record {
+  name = codes "G";
+  start = 2;
+  cats = category (codes "Int") [] ∷ category (codes "String") [] ∷ category (codes "A") []
+      ∷ category (codes "B") (of_s ∷ []) ∷ [];
+  funs = record { name = codes "a"; args = []; result = of_s }
+      ∷ record { name = codes "b"; args = record { cat = 3; args = [] } ∷ []; result = of_s } ∷ [];
+}
+
+careless_plain : {T : HoleTypes} → IsType careless T of_s
+careless_plain = record { category = category (codes "A") []; numbered = refl; indices = none }
+
+careless_is_flawed : IsFlawed careless [] arity 68
+careless_is_flawed = of_function 1
+    (all_from (IsCategoryTyped careless) careless.cats (tt, (tt, (tt, ((careless_plain, tt), tt))))) refl
+    (all_from (IsFunctionTyped careless) (take 1 careless.funs) ((careless_plain, tt), tt))
+    (here (record { category = category (codes "B") (of_s ∷ []); numbered = refl; indices = too_few }))
 
 -- a production that is not kept: heading 28, categories 18, functions 67, their number 4, name 13, categories 16, number 4
 of_d : {T : HoleTypes} → IsType dead T (record { cat = 2; args = [] })

@@ -45,6 +45,7 @@ pub mod TermNumbers
 pub mod OneGrammar
 pub mod OneFile
 pub mod NoFlaw
+pub mod OneFlaw
 pub mod TypedTreeExamples
 pub mod KeptExamples
 pub mod NilExamples

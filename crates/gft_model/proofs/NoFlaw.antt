@@ -73,7 +73,7 @@ numbers_from k (s ∷ ts) i t (zero, b, e) = omega (arith, ap (λ (h : ℕ × AT
 numbers_from k (s ∷ ts) i t (suc j, b, e) =
     let rest = numbers_from (suc k) ts i t (j, omega (arith, b), e) in omega (arith, rest)
 
-one_type_each : (k : ℕ) (ts : List AType) → HaveOneType (numbered_from k ts)
+pub one_type_each : (k : ℕ) (ts : List AType) → HaveOneType (numbered_from k ts)
 one_type_each k [] i s t (j, b, e) n = absurd (omega (arith, b))
 one_type_each k (x ∷ ts) i s t (zero, b, e) (zero, c, d) = sym (ap (λ (h : ℕ × AType). h.1) e) ∙ ap (λ (h : ℕ × AType). h.1) d
 one_type_each k (x ∷ ts) i s t (zero, b, e) (suc l, c, d) =
@@ -86,18 +86,18 @@ one_type_each k (x ∷ ts) i s t (suc j, b, e) (suc l, c, d) =
     one_type_each (suc k) ts i s t (j, omega (arith, b), e) (l, omega (arith, c), d)
 
 -- types with a flaw are not well formed
-types_flaw : {a : Abstract} {before types : List AType} {flaw : Flaw} → AreNamedApart a.funs
+pub types_flaw : {a : Abstract} {before types : List AType} {flaw : Flaw} → AreNamedApart a.funs
     → HaveTypesFlaw a before types flaw → AreTypes a before types → ⊥
 types_flaw {before} fs (here d) h = flaw_has_no_type fs (one_type_each 1 before) d h.0
 types_flaw fs (later d ds) h = types_flaw fs ds h.1
 
 -- what all items pass, the one at a place does
-at_place : {A : Type 0} (P : A → Type 0) (xs : List A) (k : ℕ) (x : A) → All P xs → slice_get xs k ≡ Some x → P x
+pub at_place : {A : Type 0} (P : A → Type 0) (xs : List A) (k : ℕ) (x : A) → All P xs → slice_get xs k ≡ Some x → P x
 at_place P [] k x all e = cc
 at_place P (y ∷ ys) zero x all e = let same : y ≡ x = cc in subst P same (all 0 y (omega arith))
 at_place P (y ∷ ys) (suc k) x all e = at_place P ys k x (λ j d b. all (suc j) d (omega (arith, b))) e
 
-all_listed : {A : Type 0} (P : A → Type 0) (xs : List A) → All P xs → All P (listed xs)
+pub all_listed : {A : Type 0} (P : A → Type 0) (xs : List A) → All P xs → All P (listed xs)
 all_listed P [] all k d b = absurd (omega (arith, b))
 all_listed P (x ∷ []) all k d b = absurd (omega (arith, b))
 all_listed P (x ∷ (y ∷ xs)) all k d b = all (suc (suc k)) d (omega (arith, b))

@@ -112,8 +112,8 @@ first_inhabitant_is_no_solution : ¬ IsSolution home (wait_for (Hole 1)) (wait_f
 first_inhabitant_is_no_solution s =
     let itself : filled Hole (wait_for (Hole 1)) ≡ wait_for (Hole 1) = simp (filled-App, filled-Hole) in
     let there = s.general (wait_for (Hole 1)) (Hole, sym itself) (kinds, admitted, cmd, wait_typed) in
-    let shape : filled there.0 (wait_for (App (codes "fan") [])) ≡ wait_for (App (codes "fan") []) =
-    simp filled-App in
+    let shape : filled there.0 (wait_for (App (codes "fan") [])) ≡ wait_for (App (codes "fan") [])
+    = filled-App there.0 (codes "Wait") _ ∙ ap wait_for (filled-App there.0 (codes "fan") []) in
     let parts = same_parts _ _ _ _ (sym (there.1 ∙ shape)) in
     no_hole (codes "fan") [] 1 (ap (λ (ts : List Tree). slice_index_or ts 0 (Hole 0)) parts.1)
 

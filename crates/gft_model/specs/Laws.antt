@@ -154,3 +154,9 @@ FaultOrFields bytes =
 -- bytes that are at no fault are those of fields that fit the table
 abbrev pub BytesHaveFaultOrFields : Type 0
 BytesHaveFaultOrFields = (bytes : List ℕ) → AreBytes bytes → FaultOrFields bytes
+
+-- bytes have at most one first flaw, and then no fault
+abbrev pub FlawIsDetermined : Type 0
+FlawIsDetermined = (bytes : List ℕ) (flaw : Flaw) (at : ℕ) → IsInvalid bytes flaw at
+    → ((other : Flaw) (there : ℕ) → IsInvalid bytes other there → (flaw ≡ other) × (at ≡ there))
+    × ((rule : Rule) (there : ℕ) → ¬ HasFault bytes rule there)

@@ -1,5 +1,5 @@
 //! Laws of the definitions. Each function does nothing; its clause is the law.
-ghost use Rattle.gft_model.specs.Laws.{CutCoversTree, ListedCoversTree, SolutionIsUnique, ErasedIsString, YieldIsDetermined, NonterminalIsDetermined, ValueIsOfRun, RunGivesValue, StringIsOfRun, RunGivesString, TypeIsDetermined, TypedHasSkeletonType, FlawedIsNoType, FieldsAreReadAgain, GrammarHasNoFault, FaultIsDetermined, FileIsOfOneGrammar, GrammarIsNotInvalid, BytesHaveFaultOrFields};
+ghost use Rattle.gft_model.specs.Laws.{CutCoversTree, ListedCoversTree, SolutionIsUnique, ErasedIsString, YieldIsDetermined, NonterminalIsDetermined, ValueIsOfRun, RunGivesValue, StringIsOfRun, RunGivesString, TypeIsDetermined, TypedHasSkeletonType, FlawedIsNoType, FieldsAreReadAgain, GrammarHasNoFault, FaultIsDetermined, FileIsOfOneGrammar, GrammarIsNotInvalid, BytesHaveFaultOrFields, FlawIsDetermined};
 
 /// The solution of a pattern is unique: it fixes the numbers of its holes too.
 pub fn solution_is_unique()
@@ -97,4 +97,9 @@ pub fn grammar_is_not_invalid()
 /// Bytes have a first fault, or are those of fields that fit the table of the portable file.
 pub fn bytes_have_fault_or_fields()
     ensures { BytesHaveFaultOrFields }
+{}
+
+/// A file has at most one first flaw, and where it has one it is at no fault.
+pub fn flaw_is_determined()
+    ensures { FlawIsDetermined }
 {}

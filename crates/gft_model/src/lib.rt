@@ -11,9 +11,9 @@ pub use answers::{
 };
 pub use laws::{
     bytes_have_fault_or_fields, cut_covers_tree, erased_is_string, fault_is_determined,
-    fields_are_read_again, file_is_of_one_grammar, flawed_is_no_type, grammar_has_no_fault,
-    grammar_is_not_invalid, listed_covers_tree, nonterminal_is_determined, run_gives_string,
-    run_gives_value, solution_is_unique, string_is_of_run, type_is_determined,
+    fields_are_read_again, file_is_of_one_grammar, flaw_is_determined, flawed_is_no_type,
+    grammar_has_no_fault, grammar_is_not_invalid, listed_covers_tree, nonterminal_is_determined,
+    run_gives_string, run_gives_value, solution_is_unique, string_is_of_run, type_is_determined,
     typed_has_skeleton_type, value_is_of_run, yield_is_determined,
 };
 pub use sources::{
