@@ -1,17 +1,21 @@
 -- The file of 133 bytes is read; files next to it are at fault.
 use Rattle.std.specs.Prelude.{◌≡◌, ◌++◌, ◌+◌, ℕ, List, [], ◌∷◌, take, drop}
-use Rattle.std.proofs.Common.{refl, sym, ◌∙◌}
+use Rattle.std.proofs.Common.{refl, ap, sym, ◌∙◌}
 use Rattle.std.specs.Str.{is_utf8, chars}
 use lib.Utf8
 use Rattle.ucd_derived.specs.Binary.{is_xid_start, is_xid_continue}
 use Rattle.ucd_derived.specs.XidStartRanges.{xid_start_ranges}
 use Rattle.ucd_derived.specs.XidContinueRanges.{xid_continue_ranges}
 use Rattle.ucd_table.specs.Rows.{in_ranges}
+use Rattle.gft_core.specs.declared.tree.Tree.{Hole, out-Tree}
+use Rattle.gft_core.specs.declared.tree.Tree.TheVariants.{outs-Hole}
 use Rattle.gft_rules.specs.declared.rule.Rule.{Rule}
 use Rattle.gft_rules.specs.declared.rule.Rule.TheVariants.{Short, BadVersion, BadText, BadNumber, BadTag, TooLong}
-use Rattle.gft_model.specs.Fields.{outcome, got}
-use Rattle.gft_model.specs.FileForms.{file}
-use Rattle.gft_model.specs.PortableFile.{file_bytes, fields_of, HasFault, of_field, after_grammar}
+use Rattle.gft_model.specs.Fields.{outcome, got, fault, written, big_endian}
+use Rattle.gft_model.specs.FileForms.{Sizes, number_in, term, type_form, file}
+use Rattle.gft_model.specs.PortableFile.{type_fields, file_bytes, fields_of, HasFault, of_field, after_grammar}
+use Rattle.gft_model.proofs.Home.{home, tag}
+use Rattle.gft_model.proofs.TermNumbers.{numbered-Hole}
 use Rattle.gft_model.proofs.Tiny.{abs, eng}
 
 abbrev tiny : List ℕ
@@ -65,3 +69,30 @@ result = of_field refl
 count : HasFault (take 16 tiny ++ 255 ∷ 255 ∷ []) Short 17
 unfolding is_utf8 chars lib.Utf8.encode is_xid_start is_xid_continue xid_start_ranges xid_continue_ranges in_ranges
 count = of_field refl
+
+-- a term: a variable; a tag that there is none of; no tag at all; any tag of a term that is too deep
+variable : outcome (term 1 1 201) 0 (1 ∷ 0 ∷ 0 ∷ 0 ∷ 0 ∷ []) ≡ got (Hole 0) 5 []
+variable = refl
+
+no_tag : outcome (term 1 1 201) 7 (9 ∷ []) ≡ fault BadTag 7
+no_tag = refl
+
+ended : outcome (term 1 1 0) 7 [] ≡ fault Short 7
+ended = refl
+
+too_deep : outcome (term 1 1 0) 7 (9 ∷ []) ≡ fault BadNumber 7
+too_deep = refl
+
+-- a variable of an argument that is not earlier
+later_variable : outcome (term 1 1 201) 0 (1 ∷ 0 ∷ 0 ∷ 0 ∷ 1 ∷ []) ≡ fault BadNumber 1
+later_variable = refl
+
+-- the bytes of `Tag k` of Home, over the argument k: category 4, one index, the variable 0
+abbrev sizes : Sizes
+sizes = record { categories = 5; functions = 4 }
+
+tag_bytes : written (type_form sizes 1) (type_fields home.funs tag) ≡ 0 ∷ 0 ∷ 0 ∷ 4 ∷ 0 ∷ 0 ∷ 0 ∷ 1 ∷ 1 ∷ 0 ∷ 0 ∷ 0 ∷ 0 ∷ []
+tag_bytes =
+    let number : number_in (out-Tree (Hole 0)) ≡ 0 = ap number_in (outs-Hole 0) in
+    rw (numbered-Hole home.funs 1, outs-Hole 0)
+    (ap (λ n. 0 ∷ 0 ∷ 0 ∷ 4 ∷ 0 ∷ 0 ∷ 0 ∷ 1 ∷ 1 ∷ big_endian 4 n) number)
