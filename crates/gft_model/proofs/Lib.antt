@@ -66,3 +66,4 @@ pub mod RefusalExamples
 pub mod CompileRefusalExamples
 pub mod NameRefusalExamples
 pub mod TypeRefusalExamples
+pub mod RefusalOrder

@@ -128,8 +128,8 @@ leaves_two =
 
 found_there : TypeFaults.BreaksTypes exh [] (whole (codes "t")) oper_t (2 ∷ []) (refusal R.NotExhaustive (place_of table_term) (param_text two ∷ []))
 found_there =
-    TypeFaults.at_term stands
-    (TypeFaults.value_left_out (TypeFaults.over_given (form-roll _) TypeFaults.a_type (ap TypingSites.table_in (out-roll-CType _))) few leaves_two)
+    TypeFaults.in_sites (TypeFaults.at_term stands
+    (TypeFaults.value_left_out (TypeFaults.over_given (form-roll _) TypeFaults.a_type (ap TypingSites.table_in (out-roll-CType _))) few leaves_two))
 
 place_of_table : place_of table_term ≡ here 3 23
 place_of_table = ap layer_place (out-roll-Term _)

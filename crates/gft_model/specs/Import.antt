@@ -7,10 +7,11 @@ use Rattle.gft_model.specs.AbstractFaults.{BreaksAbstract}
 use Rattle.gft_model.specs.AbstractParts.{IsAbstractPart}
 use Rattle.gft_model.specs.Commands.{EndsIn, portable_ending}
 use Rattle.gft_model.specs.CompileFaults.{BreaksCompiling}
-use Rattle.gft_model.specs.Flats.{AreExactly, HasEntry, HasSomewhere, categories, functions, parameters, opers, linearizations}
+use Rattle.gft_model.specs.Flats.{AreExactly, HasEntry, HasSomewhere, categories, functions, parameters, opers}
 use Rattle.gft_model.specs.HeaderFaults.{BreaksHeader, Redefines}
+use Rattle.gft_model.specs.InstanceFaults.{BreaksInstance}
 use Rattle.gft_model.specs.Items.{items_of}
-use Rattle.gft_model.specs.JudgementOrder.{Turns, IsListed, AreEntries, typed_again, Listing}
+use Rattle.gft_model.specs.JudgementOrder.{Turns, IsListed, AreEntries, Linearizes, typed_again, Listing}
 use Rattle.gft_model.specs.JudgementTyping.{IsTyped}
 use Rattle.gft_model.specs.Loading.{base_of, Loading, loaded, refused, LoadsNamed, nothing_loaded, HasFiles}
 use Rattle.gft_model.specs.Modules.{header_name, module_named, judgements_of}
@@ -47,7 +48,7 @@ module _ (mods : List Module) where
     pub funs : (A : List ℕ) → abstract_name m.header ≡ Some A → AreExactly mods flat.funs (HasEntry mods functions A)
     pub language : List FlatJudgement
     pub concretes : flat.concretes ≡ record { name = (header_name m.header).name; judgements = language } ∷ []
-    pub has : AreExactly mods language (HasEntry mods linearizations (header_name m.header).name)
+    pub has : AreExactly mods language (Linearizes mods (abstract_name m.header) (header_name m.header).name)
 
   -- all judgements of a view
   abbrev pub entries_of : Flat → List FlatJudgement
@@ -55,14 +56,14 @@ module _ (mods : List Module) where
 
   -- the judgements of a module in the order in which they are typed: copies and own ones by their turns,
   -- then those that are inherited, where they are typed again
-  pub record HasOrder (M : List ℕ) (es funs : List FlatJudgement) (order again : List FlatJudgement) : Type 0 where
+  pub record HasOrder (m : Module) (es funs : List FlatJudgement) (order again : List FlatJudgement) : Type 0 where
     pub inherited : Listing
     pub copies : Listing
     pub owned : Listing
-    pub listed : IsListed mods M inherited copies owned
+    pub listed : IsListed mods (header_name m.header).name inherited copies owned
     pub own_entries : List FlatJudgement
-    pub are_own : AreEntries mods (copies ++ owned) own_entries
-    pub are_inherited : AreEntries mods inherited again
+    pub are_own : AreEntries mods (abstract_name m.header) (copies ++ owned) own_entries
+    pub are_inherited : AreEntries mods (abstract_name m.header) inherited again
     pub turns : Turns es funs own_entries [] own_entries order
 
   -- a function that a module leaves out of what it inherits
@@ -87,13 +88,16 @@ module _ (mods : List Module) where
         {r : Refusal} →
         m.header ≡ Abstract n → AreExactly mods cats (HasEntry mods categories n.name) →
         AreExactly mods funs (HasEntry mods functions n.name) →
-        HasOrder n.name (cats ++ funs) [] order again → slice_get (order ++ again) k ≡ Some e →
+        HasOrder m (cats ++ funs) [] order again → slice_get (order ++ again) k ≡ Some e →
         BreaksAbstract cats funs (LeftOut funs) e.judgement at r → BreaksModule named m (3 ∷ k ∷ at) r
     in_types : {flat : Flat} {order again : List FlatJudgement} {k : ℕ} {e : FlatJudgement} {at : Moment} {r : Refusal} →
         IsTypedHere m.header →
-        IsView m flat → HasOrder (header_name m.header).name (entries_of flat) flat.funs order again →
+        IsView m flat → HasOrder m (entries_of flat) flat.funs order again →
         slice_get (order ++ typed_again again) k ≡ Some e →
         BreaksTypes flat (header_name m.header).name e.whole e.judgement at r → BreaksModule named m (3 ∷ k ∷ at) r
+    in_instance : {flat : Flat} {order again : List FlatJudgement} {at : Moment} {r : Refusal} → IsView m flat →
+        HasOrder m (entries_of flat) flat.funs order again → BreaksInstance mods m flat order at r →
+        BreaksModule named m (3 ∷ at) r
 
 -- what typing gives stands in the grammar, for each judgement that has a type
 pub record AreTyped (flat : Flat) : Type 0 where

@@ -17,7 +17,8 @@ use Rattle.gft_syntax.specs.declared.reference.Whole.{Whole}
 use Rattle.gft_model.specs.Flats.{IsEntry}
 use Rattle.gft_model.specs.HeaderFaults.{sort_of}
 use Rattle.gft_model.specs.JudgementTyping.{list_name, Signature, signature_in}
-use Rattle.gft_model.specs.Modules.{Is, Writes, OwnName, Declared, own, copy, inherited_of, inherited_name, lets_through, judgements_of, declared_names, names_of, is_undefined, main_name}
+use Rattle.gft_model.specs.Modules.{Is, Has, Writes, OwnName, Declared, own, copy, inherited_of, inherited_name, lets_through, judgements_of, declared_names, names_of, is_undefined, main_name}
+use Rattle.gft_model.specs.NameFaults.{Lacks}
 use Rattle.gft_model.specs.Resting.{named_by, names_in}
 use Rattle.gft_model.specs.TermParts.{judgement_parts}
 
@@ -124,12 +125,33 @@ module _ (mods : List Module) where
           ((hs : List Inherited) (f : Inherited) (ss : List Substitution) (b : Option Body) →
           ¬ (m.rest ≡ With hs f ss b)) → Copies M m []
 
-  -- the judgements of a listing with their names replaced, but for flags
-  pub data AreEntries : Listing → List FlatJudgement → Type 0 where
-    no_entry : AreEntries [] []
+  -- a linearization whose name the abstract module lacks is ignored
+  abbrev pub Ignored : Option (List ℕ) → List ℕ → Declared → Type 0
+  Ignored abstract x d =
+      (A : List ℕ) × (k : Keyword) × (j : Judgement) × (abstract ≡ Some A) × Writes mods d j × (sort_of j ≡ Some k)
+      × Lacks mods A k x
+
+  -- the judgements of a listing with their names replaced
+  pub data AreEntries (abstract : Option (List ℕ)) : Listing → List FlatJudgement → Type 0 where
+    no_entry : AreEntries abstract [] []
+    ignored : {x : List ℕ} {d : Declared} {ls : Listing} {es : List FlatJudgement} → Ignored abstract x d →
+        AreEntries abstract ls es →
+        AreEntries abstract ((x, d) ∷ ls) es
     one_entry : {x : List ℕ} {d : Declared} {e : FlatJudgement} {ls : Listing} {es : List FlatJudgement} →
-        IsEntry mods x d e → AreEntries ls es →
-        AreEntries ((x, d) ∷ ls) (e ∷ es)
+        ¬ (Ignored abstract x d) →
+        IsEntry mods x d e → AreEntries abstract ls es → AreEntries abstract ((x, d) ∷ ls) (e ∷ es)
+
+  -- what a concrete module says of the categories and functions of its abstract module
+  pub record Linearizes (abstract : Option (List ℕ)) (M : List ℕ) (e : FlatJudgement) : Type 0 where
+    pub name : List ℕ
+    pub declared : Declared
+    pub text : Judgement
+    pub keyword : Keyword
+    pub has : Has mods M name declared
+    pub writes : Writes mods declared text
+    pub sort : sort_of text ≡ Some keyword
+    pub counts : ¬ (Ignored abstract name declared)
+    pub entry : IsEntry mods name declared e
 
 -- inherited linearizations are typed again: lincats, lindefs, linrefs, then lins
 abbrev pub is_of : Keyword → Option Keyword → Bool

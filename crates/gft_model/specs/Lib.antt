@@ -33,6 +33,7 @@ pub mod CompileFaults
 pub mod TypeTexts
 pub mod TypingSites
 pub mod TypeFaults
+pub mod InstanceFaults
 pub mod JudgementOrder
 pub mod SourceLaws
 pub mod Resting
@@ -62,3 +63,4 @@ pub mod Output
 pub mod AnswerLaws
 pub mod Loading
 pub mod Import
+pub mod RefusalLaws

@@ -5,6 +5,7 @@ use Rattle.gft_rules.specs.Rules.{code_of}
 use Rattle.gft_rules.specs.declared.refusal.Refusal.{Refusal}
 use Rattle.gft_rules.specs.declared.rule.Rule.{Rule}
 use Rattle.gft_rules.specs.declared.rule.Rule.TheVariants as R
+use Rattle.gft_syntax.specs.declared.judgement.Constructor.{Constructor}
 use Rattle.gft_syntax.specs.declared.judgement.Judgement.{Judgement}
 use Rattle.gft_syntax.specs.declared.judgement.Judgement.TheVariants as J
 use Rattle.gft_syntax.specs.declared.judgement.Keyword.{Keyword}
@@ -25,7 +26,7 @@ use Rattle.gft_syntax.specs.declared.term.Term.{Term, out-Term}
 use Rattle.gft_syntax.specs.declared.term.Term.TheOpen as T
 use Rattle.gft_syntax.specs.declared.term.Term.TheFolds.{para-Term}
 use Rattle.gft_syntax.specs.Terms.{Layer, layer_place}
-use Rattle.gft_model.specs.Flats.{Part, categories, functions, part_of, IsConstructor}
+use Rattle.gft_model.specs.Flats.{Part, categories, functions, part_of}
 use Rattle.gft_model.specs.HeaderFaults.{is_abstract, own_names, opened_at}
 use Rattle.gft_model.specs.JudgementTyping.{list_name}
 use Rattle.gft_model.specs.Modules.{Is, Has, HasNameable, Writes, OpensAs, Sees, SeesQualified, Declared, header_name, judgements_of, opened_of}
@@ -140,6 +141,15 @@ abbrev pub wanted_part : Keyword → Part
 wanted_part K.Lin = functions
 wanted_part k = categories
 
+-- the judgement declares the name as a constructor
+abbrev pub DeclaresConstructor : Judgement → List ℕ → Type 0
+DeclaresConstructor j x =
+    (n : PlacedName) × (cs : List Constructor) × (j ≡ J.Param n cs) × Contains (map (λ (c : Constructor). c.name.name) cs) x
+
+-- the abstract module lacks what a linearization of that keyword and name is of
+abbrev pub Lacks : List Module → List ℕ → Keyword → List ℕ → Type 0
+Lacks mods A k x = (d : Declared) (j : Judgement) → Has mods A x d → Writes mods d j → part_of x j ≢ Some (wanted_part k)
+
 -- a category that is built in
 abbrev pub IsBuiltIn : List ℕ → Type 0
 IsBuiltIn x = (x ≡ codes "Int") ⊎ (x ≡ codes "String")
@@ -168,7 +178,7 @@ module _ (mods : List Module) (m : Module) where
 
   -- it means a constructor
   abbrev pub MeansConstructor : Option (List ℕ) → List ℕ → Type 0
-  MeansConstructor q x = (d : Declared) × (j : Judgement) × Meaning q x d × Writes mods d j × IsConstructor j x
+  MeansConstructor q x = (d : Declared) × (j : Judgement) × Meaning q x d × Writes mods d j × DeclaresConstructor j x
 
   -- two opened modules, in header order, give it differently
   pub record TwoGive (q : Option (List ℕ)) (x : List ℕ) (earlier later : Opened) : Type 0 where
@@ -255,5 +265,5 @@ module _ (mods : List Module) (m : Module) where
         (refusal rule p (x ∷ map (λ o. (opened_at o).name) os))
     abstract_lacks : {k : Keyword} {n : PlacedName} {A : List ℕ} → Contains (own_names m) (Some k, n) →
         abstract_name m.header ≡ Some A →
-        ((d : Declared) (j : Judgement) → Has mods A n.name d → Writes mods d j → part_of n.name j ≢ Some (wanted_part k)) →
+        Lacks mods A k n.name →
         BreaksNames constructors (place_moment n.place ++ code_of R.Unknown ∷ []) (refusal R.Unknown n.place (n.name ∷ []))

@@ -282,6 +282,24 @@ module _ (flat : Flat) where
         All (λ f. field_of f.0 Δ ≡ Some f.1) before → field_of x Δ ≡ Some C → B ≢ C →
         BreaksPattern p A R.Mismatch (type_text B ∷ type_text C ∷ [])
 
+  -- what is broken at terms and patterns that stand in these sites
+  pub data BreaksSites (sites : List Site) : Moment → Refusal → Type 0 where
+    at_term_early : {at : Moment} {Γ : Scope} {e : Term} {m : Mode} {r : Role} {rule : Rule} {names : List (List ℕ)} →
+        StandsIn flat sites at Γ (a_term e) m r → BreaksEarly e m rule names →
+        BreaksSites sites (at ++ 0 ∷ []) (refusal rule (place_of e) names)
+    at_term : {at : Moment} {Γ : Scope} {e : Term} {m : Mode} {r : Role} {rule : Rule} {names : List (List ℕ)} →
+        StandsIn flat sites at Γ (a_term e) m r → BreaksTerm Γ e m r rule names →
+        BreaksSites sites at (refusal rule (place_of e) names)
+    at_type : {at : Moment} {Γ : Scope} {e : Term} {S : CType} {r : Role} {rule : Rule} {names : List (List ℕ)} →
+        StandsIn flat sites at Γ (a_term e) (as_type S) r → BreaksSort Γ e S rule names →
+        BreaksSites sites at (refusal rule (place_of e) names)
+    at_pattern_early : {at : Moment} {Γ : Scope} {p : Pattern} {A : CType} {r : Role} {rule : Rule} {names : List (List ℕ)} →
+        StandsIn flat sites at Γ (a_pattern p) (given A) r → BreaksPatternEarly p A rule names →
+        BreaksSites sites (at ++ 0 ∷ []) (refusal rule (pattern_place (pattern_form p)) names)
+    at_pattern : {at : Moment} {Γ : Scope} {p : Pattern} {A : CType} {r : Role} {rule : Rule} {names : List (List ℕ)} →
+        StandsIn flat sites at Γ (a_pattern p) (given A) r → BreaksPattern p A rule names →
+        BreaksSites sites at (refusal rule (pattern_place (pattern_form p)) names)
+
   -- what is broken in the types of the judgement of that whole name, in a language
   pub data BreaksTypes (lang : List ℕ) (w : Whole) (j : Judgement) : Moment → Refusal → Type 0 where
     needs_itself : {i k : Item} {n : PlacedName} {ns : List PlacedName} {rule : Rule} → Contains (items flat) i →
@@ -292,21 +310,7 @@ module _ (flat : Flat) where
     overload_with_arguments : {ns : List PlacedName} {x : Bind} {xs : List Bind} {ds : List Alternative} →
         j ≡ J.Oper ns (x ∷ xs) (D.Overload ds) →
         BreaksTypes lang w j (0 ∷ 1 ∷ []) (refusal R.NoType (bind_place x) [])
-    at_term_early : {at : Moment} {Γ : Scope} {e : Term} {m : Mode} {r : Role} {rule : Rule} {names : List (List ℕ)} →
-        StandsIn flat (judgement_sites lang w.name j) at Γ (a_term e) m r → BreaksEarly e m rule names →
-        BreaksTypes lang w j (at ++ 0 ∷ []) (refusal rule (place_of e) names)
-    at_term : {at : Moment} {Γ : Scope} {e : Term} {m : Mode} {r : Role} {rule : Rule} {names : List (List ℕ)} →
-        StandsIn flat (judgement_sites lang w.name j) at Γ (a_term e) m r → BreaksTerm Γ e m r rule names →
-        BreaksTypes lang w j at (refusal rule (place_of e) names)
-    at_type : {at : Moment} {Γ : Scope} {e : Term} {S : CType} {r : Role} {rule : Rule} {names : List (List ℕ)} →
-        StandsIn flat (judgement_sites lang w.name j) at Γ (a_term e) (as_type S) r → BreaksSort Γ e S rule names →
-        BreaksTypes lang w j at (refusal rule (place_of e) names)
+    in_sites : {at : Moment} {r : Refusal} → BreaksSites (judgement_sites lang w.name j) at r → BreaksTypes lang w j at r
     at_definition : {e : Term} {S : CType} {rule : Rule} {names : List (List ℕ)} → unwritten j ≡ Some e →
         FoundFor flat e [] S → IsSort S →
         BreaksSort [] e S rule names → BreaksTypes lang w j (1 ∷ []) (refusal rule (place_of e) names)
-    at_pattern_early : {at : Moment} {Γ : Scope} {p : Pattern} {A : CType} {r : Role} {rule : Rule} {names : List (List ℕ)} →
-        StandsIn flat (judgement_sites lang w.name j) at Γ (a_pattern p) (given A) r → BreaksPatternEarly p A rule names →
-        BreaksTypes lang w j (at ++ 0 ∷ []) (refusal rule (pattern_place (pattern_form p)) names)
-    at_pattern : {at : Moment} {Γ : Scope} {p : Pattern} {A : CType} {r : Role} {rule : Rule} {names : List (List ℕ)} →
-        StandsIn flat (judgement_sites lang w.name j) at Γ (a_pattern p) (given A) r → BreaksPattern p A rule names →
-        BreaksTypes lang w j at (refusal rule (pattern_place (pattern_form p)) names)

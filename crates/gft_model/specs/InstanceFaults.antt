@@ -1,0 +1,116 @@
+-- Faults of an instance: what it gives for a constant has not the type that its interface declares.
+use Rattle.std.specs.Prelude.{◌≡◌, ◌≢◌, ℕ, suc, List, [], ◌∷◌, ◌++◌, map, flat_map, length, bytes_eq, ◌⊎◌, Contains, Option, Some, None, slice_get, if◌then◌else◌}
+use Rattle.std.specs.List.{AllZip}
+use Rattle.gft_core.specs.declared.place.Place.{Place}
+use Rattle.gft_rules.specs.declared.refusal.Refusal.{Refusal}
+use Rattle.gft_rules.specs.declared.rule.Rule.TheVariants as R
+use Rattle.gft_syntax.specs.declared.bind.Bind.{Bind}
+use Rattle.gft_syntax.specs.declared.ctype.CType.{CType}
+use Rattle.gft_syntax.specs.declared.flat.Flat.{Flat}
+use Rattle.gft_syntax.specs.declared.flat.FlatJudgement.{FlatJudgement}
+use Rattle.gft_syntax.specs.declared.judgement.Constructor.{Constructor}
+use Rattle.gft_syntax.specs.declared.judgement.Definition.TheVariants as D
+use Rattle.gft_syntax.specs.declared.judgement.Judgement.{Judgement}
+use Rattle.gft_syntax.specs.declared.judgement.Judgement.TheVariants as J
+use Rattle.gft_syntax.specs.declared.module.Header.TheVariants.{Instance}
+use Rattle.gft_syntax.specs.declared.module.Module.{Module}
+use Rattle.gft_syntax.specs.declared.reference.PlacedName.{PlacedName}
+use Rattle.gft_syntax.specs.declared.reference.Reference.TheVariants.{Whole as WholeName}
+use Rattle.gft_syntax.specs.declared.reference.Whole.{Whole}
+use Rattle.gft_syntax.specs.declared.term.Term.{Term, roll-Term}
+use Rattle.gft_syntax.specs.declared.term.Term.TheOpen as T
+use Rattle.gft_model.specs.ConcreteTyping.{IsType, Stands, Standing, a_parameter, an_oper, an_overload}
+use Rattle.gft_model.specs.Flats.{AreMeanings, whole_of}
+use Rattle.gft_model.specs.HeaderFaults.{placed_names}
+use Rattle.gft_model.specs.Items.{Item, alternative}
+use Rattle.gft_model.specs.Matching.{same_whole}
+use Rattle.gft_model.specs.Modules.{Has, HasNameable, Writes, Declared, copy, main_name}
+use Rattle.gft_model.specs.Refusals.{Moment, refusal, name_moment}
+use Rattle.gft_model.specs.Resolution.{Names, resolved}
+use Rattle.gft_model.specs.TypeFaults.{BreaksSites}
+use Rattle.gft_model.specs.TypeForms.{form, sort_param}
+use Rattle.gft_model.specs.TypingSites.{any_role, type_site, judgement_sites, items, FoundFor}
+
+-- what is declared of an oper: its type, or those of the alternatives of an overload; of a parameter type
+-- that it is one
+pub data Wanted : Type 0 where
+  a_type : Term → Wanted
+  alternatives : List Term → Wanted
+  a_parameter_type : Wanted
+  nothing : Wanted
+
+abbrev pub wanted_of : Judgement → Wanted
+wanted_of (J.ParamName n) = a_parameter_type
+wanted_of (J.Param n cs) = a_parameter_type
+wanted_of (J.OperType ns t) = a_type t
+wanted_of (J.OperTyped ns t (D.Term e)) = a_type t
+wanted_of (J.OperTyped ns t (D.Overload ds)) = alternatives (map (λ d. d.of_type) ds)
+wanted_of (J.Oper ns xs (D.Overload ds)) = alternatives (map (λ d. d.of_type) ds)
+wanted_of j = nothing
+
+-- the types of the alternatives of an overload, in order
+abbrev pub alternative_types : Whole → List Item → List Term
+alternative_types w [] = []
+alternative_types w (alternative v e xs t d ∷ is) = if same_whole w v then t ∷ alternative_types w is else alternative_types w is
+alternative_types w (i ∷ is) = alternative_types w is
+
+module _ (mods : List Module) (m : Module) (flat : Flat) where
+  -- the instance gives e for what its interface declares under x; names are what the names in a copy of that mean
+  pub record Replaced (x : List ℕ) (e : Declared) (text : Judgement) (names : Names) : Type 0 where
+    pub own : PlacedName
+    pub interface : PlacedName
+    pub header : m.header ≡ Instance own interface
+    pub declared : Declared
+    pub has : Has mods interface.name x declared
+    pub writes : Writes mods declared text
+    pub is_main : main_name text x ≡ x
+    pub gives : HasNameable mods own.name x e
+    pub is_no_copy : e ≢ copy own.name declared
+    pub meanings : AreMeanings mods (copy own.name declared) names
+
+  -- the name is that of a parameter type: by a param, by an oper of type PType, or by one that is a param's name
+  pub data GivesParameter (w : Whole) : Type 0 where
+    by_param : {cs : List Constructor} → Stands (items flat) w (a_parameter cs) → GivesParameter w
+    by_sort : {k : ℕ} {t : Term} {d : Option Term} → Stands (items flat) w (an_oper k (Some t) d) →
+        IsType (items flat) t sort_param →
+        GivesParameter w
+    by_name : {k : ℕ} {d : Term} {v : Whole} {p : Place} {cs : List Constructor} →
+        Stands (items flat) w (an_oper k None (Some d)) →
+        form d ≡ T.Var (WholeName v) p → Stands (items flat) v (a_parameter cs) → GivesParameter w
+
+  -- what the instance gives has another type; types are equal or not, whatever is a subtype of what
+  pub data HasAnotherType (w : Whole) (names : Names) : Wanted → Type 0 where
+    other_type : {t : Term} (p : Place) {A B : CType} → IsType (items flat) (resolved names t []) A →
+        ¬ (Stands (items flat) w an_overload) →
+        FoundFor flat (roll-Term (T.Var (WholeName w) p)) [] B → A ≢ B → HasAnotherType w names (a_type t)
+    overload_for_one : {t : Term} → Stands (items flat) w an_overload → HasAnotherType w names (a_type t)
+    one_for_overload : {ts : List Term} → ¬ (Stands (items flat) w an_overload) → HasAnotherType w names (alternatives ts)
+    other_alternatives : {ts : List Term} {As Bs : List CType} →
+        AllZip (λ t A. IsType (items flat) (resolved names t []) A) ts As →
+        AllZip (IsType (items flat)) (alternative_types w (items flat)) Bs → As ≢ Bs → HasAnotherType w names (alternatives ts)
+    no_parameter_type : ¬ (GivesParameter w) → HasAnotherType w names a_parameter_type
+
+  -- the turns of a declared type and of its comparison: once the own judgement is typed; of an inherited one, after
+  -- all own judgements, by name
+  pub data TurnOf (order : List FlatJudgement) (w : Whole) : Moment → Moment → Type 0 where
+    own_turn : {k : ℕ} {f : FlatJudgement} → slice_get order k ≡ Some f → f.whole ≡ w →
+        TurnOf order w (k ∷ suc (length (judgement_sites w.«module» w.name f.judgement)) ∷ []) (k ∷ [])
+    inherited_turn : ((f : FlatJudgement) → Contains order f → f.whole ≢ w) →
+        TurnOf order w (length order ∷ name_moment w.name ++ 0 ∷ []) (length order ∷ name_moment w.name ++ 1 ∷ [])
+
+  -- the types that are declared
+  abbrev pub declared_types : Wanted → List Term
+  declared_types (a_type t) = t ∷ []
+  declared_types (alternatives ts) = ts
+  declared_types w = []
+
+  -- what is broken where an instance replaces what its interface declares
+  pub data BreaksInstance (order : List FlatJudgement) : Moment → Refusal → Type 0 where
+    in_declared_type : {x : List ℕ} {e : Declared} {j : Judgement} {names : Names} {turn after at : Moment} {r : Refusal} →
+        Replaced x e j names → TurnOf order (whole_of x e) turn after →
+        BreaksSites flat (map (λ t. type_site any_role (resolved names t [])) (declared_types (wanted_of j))) at r →
+        BreaksInstance order (turn ++ at) r
+    of_another_type : {x : List ℕ} {e : Declared} {j text : Judgement} {names : Names} {n : PlacedName} {turn after : Moment} →
+        Replaced x e j names → TurnOf order (whole_of x e) turn after → HasAnotherType (whole_of x e) names (wanted_of j) →
+        Writes mods e text → Contains (placed_names text) n → n.name ≡ x →
+        BreaksInstance order after (refusal R.InstanceType n.place (x ∷ []))
