@@ -7,6 +7,7 @@ use Rattle.gft_model.specs.AbstractFaults.{BreaksAbstract}
 use Rattle.gft_model.specs.AbstractParts.{IsAbstractPart}
 use Rattle.gft_model.specs.Commands.{EndsIn, portable_ending}
 use Rattle.gft_model.specs.CompileFaults.{BreaksCompiling}
+use Rattle.gft_model.specs.Compiled.{Compiles}
 use Rattle.gft_model.specs.Flats.{AreExactly, HasEntry, HasSomewhere, categories, functions, parameters, opers}
 use Rattle.gft_model.specs.HeaderFaults.{BreaksHeader, Redefines}
 use Rattle.gft_model.specs.InstanceFaults.{BreaksInstance}
@@ -27,6 +28,7 @@ use Rattle.gft_rules.specs.declared.refusal.Refusal.{Refusal}
 use Rattle.gft_rules.specs.declared.rule.Rule.TheVariants as R
 use Rattle.gft_syntax.specs.declared.flat.Flat.{Flat}
 use Rattle.gft_syntax.specs.declared.flat.FlatJudgement.{FlatJudgement}
+use Rattle.gft_syntax.specs.declared.judgement.Judgement.{Judgement}
 use Rattle.gft_syntax.specs.declared.linear.Typed.{Typed}
 use Rattle.gft_syntax.specs.declared.module.Header.TheVariants.{Abstract, Resource, Instance, Concrete}
 use Rattle.gft_syntax.specs.declared.module.Header.{Header}
@@ -168,12 +170,18 @@ pub data GivesPart (files : Files) (names : List (List ℕ)) (file : List ℕ) :
       HasLanguage s.modules file lang flat → HasPart files s.modules file a →
       GivesPart files names file (record { abs = a; languages = (lang, of_source flat) ∷ [] })
 
--- the imports of sources that the answers of a session speak of, by what a language compiles to
-abbrev pub sources_by : (Flat → List ℕ → Compiled → Type 0) → Sources
-sources_by Compiles = record {
+-- what a language compiles to: by the abstract syntax of its grammar, whose name and start category do not matter
+abbrev pub CompilesTo : Flat → List ℕ → Compiled → Type 0
+CompilesTo flat lang c =
+    (a : AbstractSyntax) × (name : List ℕ) × (js : List Judgement) × IsAbstractPart flat.cats flat.funs (λ w. ⊥) name js a
+    × Compiles a flat lang c
+
+-- the imports of sources that the answers of a session speak of
+abbrev pub sources : Sources
+sources = record {
   accepts = λ files names. IsAccepted (BreaksImport files names);
   refuses = λ files names r loaded_files. IsFirst (BreaksImport files names) r × HasFiles files names loaded_files;
   loads = ComesTo;
   gives = GivesPart;
-  compiles = Compiles;
+  compiles = CompilesTo;
 }
