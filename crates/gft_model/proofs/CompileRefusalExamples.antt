@@ -1,5 +1,5 @@
 -- Worked examples of refusals of languages: a + on an argument is stuck at its place; a language that is whole.
-use Rattle.std.proofs.Common.{◌≡◌, ℕ, List, [], ◌∷◌, ◌++◌, Option, Some, None, refl, sym, ◌∙◌, arith}
+use Rattle.std.proofs.Common.{◌≡◌, [], ◌∷◌, ◌++◌, Some, None, refl, sym, ◌∙◌, arith}
 use Rattle.std.specs.Prelude.{codes, map, flat_map}
 use Rattle.gft_core.specs.declared.place.Place.{Place}
 use Rattle.gft_rules.specs.declared.rule.Rule.TheVariants as R
@@ -7,7 +7,6 @@ use Rattle.gft_syntax.specs.declared.flat.Flat.{Flat}
 use Rattle.gft_syntax.specs.declared.flat.FlatJudgement.{FlatJudgement}
 use Rattle.gft_syntax.specs.declared.judgement.Judgement.TheVariants as J
 use Rattle.gft_syntax.specs.declared.judgement.Keyword.TheVariants as K
-use Rattle.gft_syntax.specs.declared.linear.LinTerm.{LinTerm}
 use Rattle.gft_syntax.specs.declared.linear.LinTerm.TheOpen as L
 use Rattle.gft_syntax.specs.declared.term.Term.{roll-Term}
 use Rattle.gft_syntax.specs.declared.term.Term.TheOpen as T

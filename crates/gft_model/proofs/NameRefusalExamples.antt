@@ -1,6 +1,6 @@
 -- A worked example of a name that two opened modules give: the mk of AmbEng is ambiguous, and means something.
-use Rattle.std.proofs.Common.{◌≡◌, ap, sym, ◌∙◌, refl, ℕ, zero, suc, true, false, Bool, List, [], ◌∷◌, ◌++◌, length, Some, None, Option, subst, arith}
-use Rattle.std.specs.Prelude.{codes, bytes_eq, Contains, slice_get, ◌≢◌}
+use Rattle.std.proofs.Common.{◌≡◌, ap, sym, ◌∙◌, refl, ℕ, zero, suc, true, false, Bool, List, [], ◌∷◌, length, Some, None, subst, arith}
+use Rattle.std.specs.Prelude.{codes, bytes_eq, Contains, slice_get}
 use Rattle.gft_core.specs.declared.place.Place.{Place}
 use Rattle.gft_rules.specs.Rules.{code_of}
 use Rattle.gft_rules.specs.declared.rule.Rule.TheVariants as R
@@ -17,8 +17,7 @@ use Rattle.gft_syntax.specs.declared.term.Local.TheVariants.{Value}
 use Rattle.gft_syntax.specs.declared.term.Term.{Term, roll-Term}
 use Rattle.gft_syntax.specs.declared.term.Term.TheOpen as T
 use Rattle.gft_syntax.specs.declared.term.Term.TheFolds.{para-roll-Term, map-Term}
-use Rattle.gft_syntax.specs.declared.term.Term.TheViews.{out-roll-Term}
-use Rattle.gft_model.specs.Modules.{Is, Has, declares, inherits, keeps, instantiates, HasNameable, Sees, from_opened, Declared, own, own_text, module_of, inherited_of, judgements_of, declared_names}
+use Rattle.gft_model.specs.Modules.{Is, Has, declares, inherits, keeps, instantiates, HasNameable, from_opened, Declared, own, own_text, module_of, inherited_of, judgements_of, declared_names}
 use Rattle.gft_model.specs.NameFaults
 use Rattle.gft_model.specs.Refusals.{refusal, sooner, later_on}
 

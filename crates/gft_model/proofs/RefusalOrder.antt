@@ -1,5 +1,5 @@
 -- The first refusal is unique: moments are ordered.
-use Rattle.std.proofs.Common.{◌≡◌, refl, sym, ℕ, List, [], ◌∷◌, ◌⊎◌, inl, inr, ⊎_elim, arith}
+use Rattle.std.proofs.Common.{◌≡◌, refl, sym, ◌⊎◌, inl, inr, ⊎_elim, arith}
 use Rattle.std.specs.Prelude.{◌<◌}
 use Rattle.gft_rules.specs.Rules.{code_of}
 use Rattle.gft_rules.specs.declared.refusal.Refusal.{Refusal}

@@ -1,9 +1,9 @@
 -- A worked example of a fault of types: a table over N = One | Two that leaves out Two, at 3:23 of ExhEng.gf.
-use Rattle.std.proofs.Common.{◌≡◌, ap, sym, ◌∙◌, refl, ℕ, true, false, List, [], ◌∷◌, Some, None, subst, inl, inr, arith}
+use Rattle.std.proofs.Common.{◌≡◌, ap, refl, ℕ, List, [], ◌∷◌, None, subst, inl, inr, arith}
 use Rattle.std.specs.Prelude.{codes}
 use Rattle.gft_core.specs.declared.place.Place.{Place}
 use Rattle.gft_rules.specs.declared.rule.Rule.TheVariants as R
-use Rattle.gft_syntax.specs.declared.ctype.CType.{CType, out-CType, roll-CType}
+use Rattle.gft_syntax.specs.declared.ctype.CType.{CType, roll-CType}
 use Rattle.gft_syntax.specs.declared.ctype.CType.TheOpen as C
 use Rattle.gft_syntax.specs.declared.ctype.CType.TheFolds.{fold-roll-CType}
 use Rattle.gft_syntax.specs.declared.ctype.CType.TheViews.{out-roll-CType}
@@ -25,15 +25,15 @@ use Rattle.gft_syntax.specs.declared.term.Term.TheViews.{out-roll-Term}
 use Rattle.gft_syntax.specs.declared.value.Param.{Param}
 use Rattle.gft_syntax.specs.declared.value.Param.TheViews.{out-roll-Param}
 use Rattle.gft_syntax.specs.declared.value.Param.TheFolds.{fold-roll-Param}
-use Rattle.gft_model.specs.ConcreteTypes.{values_of, is_finite, count_of}
-use Rattle.gft_model.specs.ConcreteTyping.{IsType, IsParameter, IsDomain, IsData, text_type, table_over, parameters_named, parameter_of, no_constructor, constructor, no_argument}
+use Rattle.gft_model.specs.ConcreteTypes.{count_of}
+use Rattle.gft_model.specs.ConcreteTyping.{IsType, IsParameter, IsDomain, text_type, table_over, parameters_named, parameter_of, no_constructor, constructor, no_argument}
 use Rattle.gft_model.specs.Items.{items_of}
 use Rattle.gft_model.specs.JudgementTyping.{IsSort}
 use Rattle.gft_model.specs.Refusals.{refusal}
 use Rattle.gft_model.specs.TypeFaults
 use Rattle.gft_model.specs.TypeTexts.{Written, param_step, param_text}
 use Rattle.gft_syntax.specs.Terms.{place_of, layer_place}
-use Rattle.gft_model.specs.TypeForms.{form, str_type, table_type, sort_type, sort_param}
+use Rattle.gft_model.specs.TypeForms.{str_type, table_type}
 use Rattle.gft_model.specs.TypingSites
 use Rattle.gft_model.specs.ValueForms.{con_param}
 use Rattle.gft_model.proofs.Computing.{form-roll, match-roll}

@@ -1,5 +1,5 @@
 -- Faults of types and indices in an abstract judgement.
-use Rattle.std.specs.Prelude.{◌≡◌, ℕ, suc, ◌+◌, List, [], ◌∷◌, ◌++◌, map, flat_map, length, take, Bool, true, false, ◌⊎◌, codes, Contains, Option, Some, None, ◌≢◌, slice_get}
+use Rattle.std.specs.Prelude.{◌≡◌, ℕ, suc, ◌+◌, List, [], ◌∷◌, ◌++◌, map, length, take, Bool, true, false, ◌⊎◌, codes, Contains, Option, Some, None, ◌≢◌, slice_get}
 use Rattle.gft_core.specs.Words.{IsWord}
 use Rattle.gft_core.specs.declared.place.Place.{Place}
 use Rattle.gft_core.specs.declared.tree.Tree.{Tree, roll-Tree, fold-Tree}
@@ -19,11 +19,10 @@ use Rattle.gft_syntax.specs.declared.reference.Reference.TheVariants.{Written, W
 use Rattle.gft_syntax.specs.declared.reference.Whole.{Whole}
 use Rattle.gft_syntax.specs.declared.term.Term.{Term, out-Term}
 use Rattle.gft_syntax.specs.declared.term.Term.TheOpen as T
-use Rattle.gft_syntax.specs.declared.term.Term.TheFolds.{fold-Term}
 use Rattle.gft_syntax.specs.Terms.{Layer, place_of}
 use Rattle.gft_model.specs.ConcreteTypes.{field_of}
 use Rattle.gft_model.specs.ConcreteTyping.{Spine, for_each}
-use Rattle.gft_model.specs.JudgementTyping.{list_name, name_of, Signature, signature_given}
+use Rattle.gft_model.specs.JudgementTyping.{list_name, name_of, signature_given}
 use Rattle.gft_model.specs.Refusals.{Moment, refusal}
 use Rattle.gft_model.specs.TermParts.{parts}
 use Rattle.gft_model.specs.AbstractInfo.{index_step}

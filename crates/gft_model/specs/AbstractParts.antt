@@ -1,7 +1,6 @@
 -- The abstract syntax that an abstract module is.
-use Rattle.std.specs.Prelude.{◌≡◌, ◌≢◌, ◌↔◌, ℕ, List, [], ◌∷◌, ◌++◌, map, ◌⊎◌, codes, Contains, Option, Some, None, slice_get}
+use Rattle.std.specs.Prelude.{◌≡◌, ℕ, List, [], ◌∷◌, ◌++◌, map, ◌⊎◌, codes, Contains, Some, slice_get}
 use Rattle.std.specs.List.{AllZip}
-use Rattle.gft_core.specs.declared.place.Place.{Place}
 use Rattle.gft_pmcfg.specs.declared.signature.AType.{AType}
 use Rattle.gft_pmcfg.specs.declared.signature.Abstract.{Abstract}
 use Rattle.gft_pmcfg.specs.declared.signature.Cat.{Cat}
@@ -12,7 +11,7 @@ use Rattle.gft_syntax.specs.declared.judgement.Judgement.TheVariants as J
 use Rattle.gft_syntax.specs.declared.judgement.Setting.TheVariants as V
 use Rattle.gft_syntax.specs.declared.reference.PlacedName.{PlacedName}
 use Rattle.gft_syntax.specs.declared.reference.Whole.{Whole}
-use Rattle.gft_model.specs.AbstractFaults.{Indexed, IsCategory, HasContext, HasSignature}
+use Rattle.gft_model.specs.AbstractFaults.{Indexed, HasContext, HasSignature}
 use Rattle.gft_model.specs.Refusals.{Before, name_moment}
 use Rattle.gft_model.specs.States.{category_name}
 

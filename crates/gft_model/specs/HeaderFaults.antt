@@ -1,5 +1,5 @@
 -- Faults of a module's header, and of names that it declares twice.
-use Rattle.std.specs.Prelude.{◌≡◌, ℕ, List, [], ◌∷◌, ◌++◌, map, flat_map, length, Bool, true, false, not, ◌⊎◌, codes, Contains, Option, Some, None, ◌≢◌, if◌then◌else◌}
+use Rattle.std.specs.Prelude.{◌≡◌, ℕ, List, [], ◌∷◌, ◌++◌, map, flat_map, length, Bool, true, false, not, ◌⊎◌, codes, Contains, Option, Some, None, ◌≢◌}
 use Rattle.gft_rules.specs.declared.refusal.Refusal.{Refusal}
 use Rattle.gft_rules.specs.declared.rule.Rule.TheVariants as R
 use Rattle.gft_syntax.specs.declared.judgement.Judgement.{Judgement}

@@ -1,7 +1,7 @@
 -- An import: what is broken in it, in its order, and what its files give.
 use Rattle.std.specs.FinMap.{get, remove}
 use Rattle.std.specs.List.{list_any}
-use Rattle.std.specs.Prelude.{◌≡◌, ◌↔◌, ℕ, ◌-◌, ◌<◌, List, [], ◌∷◌, ◌++◌, flat_map, length, Bool, bytes_eq, Contains, Some, None, ◌≢◌, slice_get}
+use Rattle.std.specs.Prelude.{◌≡◌, ◌↔◌, ℕ, ◌<◌, List, [], ◌∷◌, ◌++◌, flat_map, length, Bool, bytes_eq, Contains, Some, None, ◌≢◌, slice_get}
 use Rattle.gft_io.specs.Outside.{Files}
 use Rattle.gft_model.specs.AbstractFaults.{BreaksAbstract}
 use Rattle.gft_model.specs.AbstractParts.{IsAbstractPart}

@@ -1,10 +1,9 @@
 -- Faults of an instance: what it gives for a constant has not the type that its interface declares.
-use Rattle.std.specs.Prelude.{◌≡◌, ◌≢◌, ℕ, suc, List, [], ◌∷◌, ◌++◌, map, flat_map, length, bytes_eq, ◌⊎◌, Contains, Option, Some, None, slice_get, if◌then◌else◌}
+use Rattle.std.specs.Prelude.{◌≡◌, ◌≢◌, ℕ, suc, List, [], ◌∷◌, ◌++◌, map, length, Contains, Option, Some, None, slice_get, if◌then◌else◌}
 use Rattle.std.specs.List.{AllZip}
 use Rattle.gft_core.specs.declared.place.Place.{Place}
 use Rattle.gft_rules.specs.declared.refusal.Refusal.{Refusal}
 use Rattle.gft_rules.specs.declared.rule.Rule.TheVariants as R
-use Rattle.gft_syntax.specs.declared.bind.Bind.{Bind}
 use Rattle.gft_syntax.specs.declared.ctype.CType.{CType}
 use Rattle.gft_syntax.specs.declared.flat.Flat.{Flat}
 use Rattle.gft_syntax.specs.declared.flat.FlatJudgement.{FlatJudgement}
@@ -19,7 +18,7 @@ use Rattle.gft_syntax.specs.declared.reference.Reference.TheVariants.{Whole as W
 use Rattle.gft_syntax.specs.declared.reference.Whole.{Whole}
 use Rattle.gft_syntax.specs.declared.term.Term.{Term, roll-Term}
 use Rattle.gft_syntax.specs.declared.term.Term.TheOpen as T
-use Rattle.gft_model.specs.ConcreteTyping.{IsType, Stands, Standing, a_parameter, an_oper, an_overload}
+use Rattle.gft_model.specs.ConcreteTyping.{IsType, Stands, a_parameter, an_oper, an_overload}
 use Rattle.gft_model.specs.Flats.{AreMeanings, whole_of}
 use Rattle.gft_model.specs.HeaderFaults.{placed_names}
 use Rattle.gft_model.specs.Items.{Item, alternative}

@@ -1,6 +1,5 @@
 -- The order in which the judgements of a module are typed.
-use Rattle.std.specs.Prelude.{◌≡◌, ℕ, suc, List, [], ◌∷◌, ◌++◌, map, flat_map, filter, Bool, true, false, not, bytes_eq, Contains, Option, Some, None}
-use Rattle.std.specs.List.{list_any}
+use Rattle.std.specs.Prelude.{◌≡◌, ℕ, suc, List, [], ◌∷◌, ◌++◌, map, flat_map, filter, Bool, true, false, Contains, Option, Some, None}
 use Rattle.gft_syntax.specs.declared.flat.FlatJudgement.{FlatJudgement}
 use Rattle.gft_syntax.specs.declared.judgement.Judgement.{Judgement}
 use Rattle.gft_syntax.specs.declared.judgement.Judgement.TheVariants as J
@@ -17,7 +16,7 @@ use Rattle.gft_syntax.specs.declared.reference.Whole.{Whole}
 use Rattle.gft_model.specs.Flats.{IsEntry}
 use Rattle.gft_model.specs.HeaderFaults.{sort_of}
 use Rattle.gft_model.specs.JudgementTyping.{list_name, Signature, signature_in}
-use Rattle.gft_model.specs.Modules.{Is, Has, Writes, OwnName, Declared, own, copy, inherited_of, inherited_name, lets_through, judgements_of, declared_names, names_of, is_undefined, main_name}
+use Rattle.gft_model.specs.Modules.{Is, Has, Writes, OwnName, Declared, own, copy, inherited_of, inherited_name, lets_through, judgements_of, declared_names, is_undefined, main_name}
 use Rattle.gft_model.specs.NameFaults.{Lacks}
 use Rattle.gft_model.specs.Resting.{named_by, names_in}
 use Rattle.gft_model.specs.TermParts.{judgement_parts}

@@ -1,6 +1,5 @@
 -- The parts of a term with what binds around each, its height, and the terms of a judgement.
 use Rattle.std.specs.Prelude.{ℕ, suc, Bool, true, false, List, [], ◌∷◌, ◌++◌, map, flat_map, max, Option, Some, None}
-use Rattle.gft_syntax.specs.declared.judgement.Alternative.{Alternative}
 use Rattle.gft_syntax.specs.declared.judgement.Context.{Context}
 use Rattle.gft_syntax.specs.declared.judgement.Definition.{Definition}
 use Rattle.gft_syntax.specs.declared.judgement.Definition.TheVariants as D

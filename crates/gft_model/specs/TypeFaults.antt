@@ -1,5 +1,5 @@
 -- Faults of types in a judgement, each at the term or pattern that is faulty.
-use Rattle.std.specs.Prelude.{◌≡◌, ℕ, suc, ◌+◌, ◌<◌, ◌≤◌, List, [], ◌∷◌, ◌++◌, map, flat_map, length, drop, Bool, true, false, All, IsTrue, ◌⊎◌, bytes_eq, Contains, Option, Some, None, ◌≢◌, slice_get, if◌then◌else◌}
+use Rattle.std.specs.Prelude.{◌≡◌, ℕ, ◌+◌, ◌<◌, ◌≤◌, List, [], ◌∷◌, ◌++◌, map, flat_map, length, drop, Bool, true, false, All, ◌⊎◌, bytes_eq, Contains, Option, Some, None, ◌≢◌, slice_get, if◌then◌else◌}
 use Rattle.std.specs.List.{list_any, list_all}
 use Rattle.gft_core.specs.declared.place.Place.{Place}
 use Rattle.gft_rules.specs.declared.refusal.Refusal.{Refusal}
@@ -9,7 +9,6 @@ use Rattle.gft_syntax.specs.declared.bind.Bind.{Bind}
 use Rattle.gft_syntax.specs.declared.ctype.CType.{CType, out-CType}
 use Rattle.gft_syntax.specs.declared.flat.Flat.{Flat}
 use Rattle.gft_syntax.specs.declared.judgement.Alternative.{Alternative}
-use Rattle.gft_syntax.specs.declared.judgement.Constructor.{Constructor}
 use Rattle.gft_syntax.specs.declared.judgement.Definition.TheVariants as D
 use Rattle.gft_syntax.specs.declared.judgement.Judgement.{Judgement}
 use Rattle.gft_syntax.specs.declared.judgement.Judgement.TheVariants as J
@@ -38,7 +37,7 @@ use Rattle.gft_model.specs.Refusals.{Moment, refusal}
 use Rattle.gft_model.specs.Resting.{Rests, answers_to}
 use Rattle.gft_model.specs.TypeForms.{form, str_type, number_type, sort_type, table_type, functions}
 use Rattle.gft_model.specs.TypeTexts.{type_text, param_text}
-use Rattle.gft_model.specs.TypingSites.{Mode, found, given, given_own, as_type, over, unasked, Role, any_role, data_wanted, finite_wanted, selected, Node, a_term, a_pattern, Site, term_mode, fields_in, table_in, function_in, value_mode, labelled, Binds, items, FoundFor, HasOverload, IsOverloaded, IsConstructorOf, StandsIn, judgement_sites}
+use Rattle.gft_model.specs.TypingSites.{Mode, found, given, given_own, as_type, over, unasked, Role, data_wanted, finite_wanted, selected, a_term, a_pattern, Site, term_mode, fields_in, table_in, function_in, value_mode, labelled, Binds, items, FoundFor, HasOverload, IsOverloaded, IsConstructorOf, StandsIn, judgement_sites}
 
 -- forms that need a type to be given: a lambda, \\, a table without its type, variants {}
 abbrev pub needs_type : Layer → Bool
