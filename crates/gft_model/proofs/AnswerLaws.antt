@@ -1,25 +1,22 @@
 -- An answer is determined, where imports and compilation are.
-use Rattle.std.proofs.Common.{◌≡◌, ◌≢◌, refl, sym, ap, ◌∙◌, subst, ℕ, ◌+◌, ◌<◌, ◌≤◌, List, [], ◌∷◌, ◌++◌, true, false, arith, length, filter, flat_map}
+use Rattle.std.proofs.Common.{◌≡◌, ◌≢◌, refl, sym, ap, ◌∙◌, subst, ℕ, ◌<◌, ◌≤◌, List, [], ◌∷◌, true, false, arith, length, flat_map}
 use Rattle.std.specs.Option.{unwrap_or}
 use Rattle.gft_rules.specs.declared.rule.Rule.TheVariants.{NoSuchLanguage, NoSuchCategory, UnknownName, PortableTooLong}
 use Rattle.std.specs.Prelude.{map, Option, Some, None, Result, Ok, Err, bytes_eq}
 use Rattle.std.specs.List.{AllZip}
 use Rattle.std.specs.Str.{chars}
-use Rattle.gft_core.specs.declared.tree.Tree.{Tree}
 use Rattle.gft_io.specs.Outside.{Files}
 use Rattle.gft_pmcfg.specs.declared.concrete.Concrete.{Concrete}
-use Rattle.gft_pmcfg.specs.declared.grammar.Grammar.{Grammar}
 use Rattle.gft_rules.specs.declared.refusal.Refusal.{Refusal}
 use Rattle.gft_syntax.specs.declared.flat.Flat.{Flat}
 use Rattle.gft_model.specs.Commands.{Verb, Import, Empty, Quit, AbstractInfo, WritePortable, Argument, Nothing, Name, Command, refusal, InTurn, Read, Pipe, Refused}
 use Rattle.std.specs.FinMap.{insert}
 use Rattle.gft_model.specs.AbstractInfo.{judgement_lines}
 use Rattle.gft_model.specs.Commands as argument
-use Rattle.gft_model.specs.PortableFile.{file_of, file_bytes}
-use Rattle.gft_model.specs.Replies.{Item, a_text, Makes, parsed, completed, too_long, linearized, unsolved, passed, Parses, Completes, Runs, done, next, refused, AreTexts, languages_for, category_for, item_of, line_of}
-use Rattle.gft_model.specs.Shell as shell
+use Rattle.gft_model.specs.PortableFile.{file_bytes}
+use Rattle.gft_model.specs.Replies.{Item, a_text, Makes, parsed, completed, too_long, linearized, unsolved, passed, Parses, Completes, Runs, done, next, refused, AreTexts, languages_for, item_of, line_of}
 use Rattle.gft_model.specs.Shell.{Held, Answer, Lacks, no_grammar, no_language, no_such_language, no_such_category, LacksFirst, here, later, IsAlone, IsFileOf, Does, PipeSteps, AllSteps, Steps, IsAnswer, followed, replying, refusing, grammar_line, portable_limit, wrote_line}
-use Rattle.gft_model.specs.States.{Kept, Languages, Loaded, State, Sources, Gives, IsImported, Joins, IsCompiled, StandsFor, language_of, added}
+use Rattle.gft_model.specs.States.{Kept, Loaded, State, Sources, Gives, IsImported, Joins, IsCompiled, StandsFor, language_of, added}
 use Rattle.gft_model.proofs.CommandLaws.{in_turn_once, zip_once, line_once}
 use Rattle.gft_model.proofs.ReplyLaws.{parses_once, completes_once, texts_once}
 use Rattle.gft_model.proofs.UnsolvedLaws.{reason_once}

@@ -1,12 +1,12 @@
 -- The output of a run is determined, where imports and compilation are.
-use Rattle.std.proofs.Common.{◌≡◌, refl, sym, ap, ◌∙◌, subst, ℕ, ◌+◌, List, [], ◌∷◌, ◌++◌, true, false, arith}
+use Rattle.std.proofs.Common.{◌≡◌, refl, sym, ap, ◌∙◌, subst, ℕ, List, [], ◌∷◌, ◌++◌, true, false, arith}
 use Rattle.std.proofs.lemmas.Bool.{eqb-true}
-use Rattle.std.specs.Prelude.{codes, length, None}
+use Rattle.std.specs.Prelude.{codes, length}
 use Rattle.std.specs.Str.Parse.{digits_value}
 use Rattle.gft_io.specs.Lines.{lines_of}
 use Rattle.gft_io.specs.Outside.{Files}
 use Rattle.gft_model.specs.Commands.{Verb, Import, WritePortable, Read}
-use Rattle.gft_model.specs.Output.{is_plain, AreWords, none, a_file, only_files, an_out, an_out_is, a_count, a_count_is, Mode, session, make, workload, Asks, for_session, to_make, for_workload, words_after, Written, plain, before, IsPipeOf, pipe, bad_name, unbegun, LinesStep, end, quit, next, FilesStep, Output, workload_text, usage_line}
+use Rattle.gft_model.specs.Output.{is_plain, AreWords, none, a_file, only_files, an_out, an_out_is, a_count, a_count_is, Mode, session, make, workload, Asks, for_session, to_make, for_workload, Written, plain, before, IsPipeOf, pipe, bad_name, unbegun, LinesStep, end, quit, next, FilesStep, Output, workload_text, usage_line}
 use Rattle.gft_model.specs.Shell.{Held, Answer, PipeSteps, Steps}
 use Rattle.gft_model.specs.States.{Sources}
 use Rattle.gft_model.proofs.AnswerLaws.{AreDetermined, answer_once, pipe_once}

@@ -1,17 +1,14 @@
 -- Answers of `parse` and `complete` are determined.
-use Rattle.std.proofs.Common.{◌≡◌, ◌≢◌, refl, sym, ap, ◌∙◌, subst, ℕ, zero, suc, ◌+◌, ◌<◌, List, [], ◌∷◌, ◌++◌, true, false, Bool, arith, ⊎_elim, inl, inr, ◌↔◌, append_assoc, append-nil, length, IsTrue, map}
-use Rattle.std.specs.Prelude.{Contains, AllPairs, ◌⊎◌, slice_index_or}
-use Rattle.std.specs.Cmp.Lexicographic.{slice_cmp, nat_list_cmp_total}
-use Rattle.std.specs.Ordering.{nat_cmp}
+use Rattle.std.proofs.Common.{◌≡◌, refl, sym, ap, ◌∙◌, subst, ℕ, zero, suc, List, [], ◌∷◌, ◌++◌, true, false, Bool, arith, ⊎_elim, inl, inr, ◌↔◌, append_assoc, append-nil, length, IsTrue, map}
+use Rattle.std.specs.Prelude.{Contains, AllPairs, ◌⊎◌}
+use Rattle.std.specs.Cmp.Lexicographic.{nat_list_cmp_total}
 use Rattle.gft_core.specs.Words.{joined}
 use Rattle.gft_core.specs.declared.tree.Tree.{Tree}
 use Rattle.gft_pmcfg.specs.declared.signature.Abstract.{Abstract}
-use Rattle.gft_model.specs.Brackets.{Piece, erased}
 use Rattle.gft_model.specs.Listing as listing
 use Rattle.gft_model.specs.Listing.{Language, IsListed, IsListing}
-use Rattle.gft_model.specs.Replies.{Item, a_tree, a_line, IsBefore, FailsAt, failed_line, Parses, listed, not_complete, no_tree, Completes, next, next_items, AreNext, AreTexts}
-use Rattle.gft_model.specs.Replies as replies
-use Rattle.gft_model.specs.Sentences.{Begins, IsSentence, IsNext, a_word, any_integer, any_string}
+use Rattle.gft_model.specs.Replies.{Item, a_tree, a_line, IsBefore, FailsAt, failed_line, Parses, listed, not_complete, no_tree, Completes, next, next_items, AreTexts}
+use Rattle.gft_model.specs.Sentences.{Begins, IsSentence}
 use Rattle.gft_model.specs.Trees.{text_of}
 use Rattle.gft_model.proofs.SkeletonLaws.{skeleton}
 
