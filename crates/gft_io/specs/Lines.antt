@@ -41,3 +41,13 @@ with_first byte (line ∷ lines) = (byte ∷ line) ∷ lines
 abbrev pub lines_of : List ℕ → List (List ℕ)
 lines_of [] = []
 lines_of (byte ∷ bytes) = if byte == 10 then [] ∷ lines_of bytes else with_first byte (lines_of bytes)
+
+-- lines whose first, where there is one, begins with one byte more
+abbrev pub in_first : ℕ → List (List ℕ) → List (List ℕ)
+in_first byte [] = []
+in_first byte (line ∷ lines) = (byte ∷ line) ∷ lines
+
+-- the lines of a text that a newline ends
+abbrev pub ended_lines : List ℕ → List (List ℕ)
+ended_lines [] = []
+ended_lines (byte ∷ bytes) = if byte == 10 then [] ∷ ended_lines bytes else in_first byte (ended_lines bytes)

@@ -3,9 +3,9 @@ use Rattle.std.proofs.Common.{Bool, true, false, ◌||◌, ◌-◌, arith, ◌�
 use Rattle.std.specs.declared.vec.Vec.{Vec}
 use Rattle.std.specs.declared.alloc.Global.{Global}
 use Rattle.gft_io.specs.Outside.{Rose, raised}
-use Rattle.gft_io.specs.Lines.{first_line, input_limit}
+use Rattle.gft_io.specs.Lines.{first_line, input_limit, HasNoNewline}
 use Rattle.gft_io.specs.Place as place
-use Rattle.gft_io.specs.Place.{Place, count, Pends, Passes, Answers, KeepsAll}
+use Rattle.gft_io.specs.Place.{Place, kept, count, Pends, Passes, Answers, KeepsAll}
 use Rattle.gft_io.specs.declared.lines.LineErr.{LineErr}
 use Rattle.gft_io.specs.declared.lines.LineErr.TheVariants.{ReadFault, InputLimit, LineTooLong, NoMemory}
 use Rattle.gft_top.specs.declared.reply.Reply as code
@@ -15,7 +15,7 @@ use Rattle.gft_top.specs.declared.running.Turn.TheVariants.{Replied, Ended}
 use Rattle.gft_top.specs.Session.{Reply, Modules, IsReply, too_long}
 use Rattle.gft_top.specs.Seen.{reply_of}
 use Rattle.gft_top.specs.Ends.{Puts, Advances, HasCause, Responds, TurnsTold, LinesTold, LinesAny, flagged}
-use Rattle.gft_top.proofs.RunLemmas.{IsGoing, same_told, going_on, going_end, going_stop, late_input}
+use Rattle.gft_top.proofs.RunLemmas.{IsGoing, same_told, going_on, going_end, going_stop, going_late, going_failed, going_broken}
 use Rattle.gft_top.proofs.SessionLemmas.{rose_later}
 
 abbrev Found : Type 0
@@ -26,7 +26,7 @@ put_told : (session : Option Modules) (old new : Place) (left held holds : Optio
     → Passes old new left bytes → IsReply session (first_line bytes) reply → Puts reply held holds before after turn → TurnsTold session old new left held holds bytes turn
 put_told session old new left held holds bytes reply before after (Replied refused) p is q = (p, (reply, is, q.0, q.1))
 put_told session old new left held holds bytes reply before after (Ended status) p is q =
-    subst (λ (s : Status). TurnsTold session old new left held holds bytes (Ended s)) (sym q.0) tt
+    subst (λ (s : Status). TurnsTold session old new left held holds bytes (Ended s)) (sym q.0) (p, (reply, is, q.2))
 
 -- a line was found, or one that is too long, and its reply was put
 pub replied_told : (session : Option Modules) (old new : Place) (left held holds : Option (List ℕ)) (bytes : List ℕ) (found : Found) (reply : code.Reply) (before after : ℕ) (turn : Turn)
@@ -42,13 +42,14 @@ replied_told session old new left held holds bytes (Err NoMemory) reply before a
 
 -- no line was found, or there was no memory for its reply
 pub ended_told : (session : Option Modules) (old new : Place) (left holds : Option (List ℕ)) (bytes : List ℕ) (found : Found) (status : Status)
-    → Responds session found (Err status) → Answers old new left bytes found → TurnsTold session old new left holds holds bytes (Ended status)
-ended_told session old new left holds bytes (Ok (Some line)) status r a = subst (λ (s : Status). TurnsTold session old new left holds holds bytes (Ended s)) (sym r) (same_told holds)
-ended_told session old new left holds bytes (Ok None) status r a = subst (λ (s : Status). TurnsTold session old new left holds holds bytes (Ended s)) (sym r) (a.0, a.1, same_told holds)
-ended_told session old new left holds bytes (Err LineTooLong) status r a = subst (λ (s : Status). TurnsTold session old new left holds holds bytes (Ended s)) (sym r) (same_told holds)
-ended_told session old new left holds bytes (Err InputLimit) status r a = subst (λ (s : Status). TurnsTold session old new left holds holds bytes (Ended s)) (sym r) (a.0, same_told holds)
-ended_told session old new left holds bytes (Err ReadFault) status r a = subst (λ (s : Status). TurnsTold session old new left holds holds bytes (Ended s)) (sym r) (same_told holds)
-ended_told session old new left holds bytes (Err NoMemory) status r a = subst (λ (s : Status). TurnsTold session old new left holds holds bytes (Ended s)) (sym r) (same_told holds)
+    → Responds session found (Err status) → Answers old new left bytes found → (IsErrOf found ReadFault → HasNoNewline (kept new))
+    → TurnsTold session old new left holds holds bytes (Ended status)
+ended_told session old new left holds bytes (Ok (Some line)) status r a k = subst (λ (s : Status). TurnsTold session old new left holds holds bytes (Ended s)) (sym r) (same_told holds)
+ended_told session old new left holds bytes (Ok None) status r a k = subst (λ (s : Status). TurnsTold session old new left holds holds bytes (Ended s)) (sym r) (a.0, a.1, same_told holds)
+ended_told session old new left holds bytes (Err LineTooLong) status r a k = subst (λ (s : Status). TurnsTold session old new left holds holds bytes (Ended s)) (sym r) (same_told holds)
+ended_told session old new left holds bytes (Err InputLimit) status r a k = subst (λ (s : Status). TurnsTold session old new left holds holds bytes (Ended s)) (sym r) (a.0, same_told holds)
+ended_told session old new left holds bytes (Err ReadFault) status r a k = subst (λ (s : Status). TurnsTold session old new left holds holds bytes (Ended s)) (sym r) (a, k refl, same_told holds)
+ended_told session old new left holds bytes (Err NoMemory) status r a k = subst (λ (s : Status). TurnsTold session old new left holds holds bytes (Ended s)) (sym r) (same_told holds)
 
 -- a turn that replied passed bytes
 pub replied_advances : (session : Option Modules) (old new : Place) (found : Found) (reply : code.Reply) (turn : Turn)
@@ -80,23 +81,34 @@ ended_cause session old new before after sink_before sink_after (Err ReadFault) 
 ended_cause session old new before after sink_before sink_after (Err NoMemory) status r f l = subst (λ (s : Status). HasCause new before after sink_before sink_after (Ended s)) (sym r) tt
 
 -- how a run ends where a turn ended it
-pub turn_ends : (session : Option Modules) (input : List ℕ) (refused now : Bool) (old new : Place) (left left' held holds holds' : Option (List ℕ))
-    (g : IsGoing session input refused now old left held holds) (status : Status) → old.passed ≤ input_limit
-    → TurnsTold session old new left' holds holds' g.bytes (Ended status) → LinesTold session input refused held holds' left' (flagged now status)
-turn_ends session input refused true old new left left' held holds holds' g Status.Done b t = going_end session input refused true old new left left' held holds holds' g true t.0 t.1 b t.2 refl
-turn_ends session input refused false old new left left' held holds holds' g Status.Done b t = going_end session input refused false old new left left' held holds holds' g false t.0 t.1 b t.2 refl
-turn_ends session input refused now old new left left' held holds holds' g Status.SomeRefused b t = absurd t
-turn_ends session input refused now old new left left' held holds holds' g Status.Usage b t = absurd t
-turn_ends session input refused true old new left left' held holds holds' g Status.ReadFault b t = going_stop session input refused true old left held holds holds' g t
-turn_ends session input refused false old new left left' held holds holds' g Status.ReadFault b t = going_stop session input refused false old left held holds holds' g t
-turn_ends session input refused true old new left left' held holds holds' g Status.WriteFault b t = tt
-turn_ends session input refused false old new left left' held holds holds' g Status.WriteFault b t = tt
-turn_ends session input refused true old new left left' held holds holds' g Status.NoMemory b t = going_stop session input refused true old left held holds holds' g t
-turn_ends session input refused false old new left left' held holds holds' g Status.NoMemory b t = going_stop session input refused false old left held holds holds' g t
-turn_ends session input refused true old new left left' held holds holds' g Status.InputLimit b t =
-    (late_input session input refused true old left held holds g t.0, going_stop session input refused true old left held holds holds' g t.1)
-turn_ends session input refused false old new left left' held holds holds' g Status.InputLimit b t =
-    (late_input session input refused false old left held holds g t.0, going_stop session input refused false old left held holds holds' g t.1)
+module _ (session : Option Modules) (input : List ℕ) (refused now : Bool) (old new : Place) (left left' held holds holds' : Option (List ℕ))
+    (g : IsGoing session input refused now old left held holds) (within : old.passed ≤ input_limit) where
+  -- a status that is the same with a refusal as without one
+  either : (status : Status) → flagged true status ≡ status → (b : Bool) → flagged b status ≡ status
+  either status e true = e
+  either status e false = refl
+
+  as_it_is : (status : Status) → flagged true status ≡ status → LinesTold session input refused held holds' left' status
+      → LinesTold session input refused held holds' left' (flagged now status)
+  as_it_is status e h = subst (λ (s : Status). LinesTold session input refused held holds' left' s) (sym (either status e now)) h
+
+  at_end : (b : Bool) → now ≡ b → TurnsTold session old new left' holds holds' g.bytes (Ended Status.Done)
+      → LinesTold session input refused held holds' left' (flagged b Status.Done)
+  at_end true e t = going_end session input refused now old left held holds g new left' holds' true t.0 t.1 within t.2 e
+  at_end false e t = going_end session input refused now old left held holds g new left' holds' false t.0 t.1 within t.2 e
+
+  pub turn_ends : (status : Status) → TurnsTold session old new left' holds holds' g.bytes (Ended status)
+      → LinesTold session input refused held holds' left' (flagged now status)
+  turn_ends Status.Done t = at_end now refl t
+  turn_ends Status.SomeRefused t = absurd t
+  turn_ends Status.Usage t = absurd t
+  turn_ends Status.ReadFault t =
+      as_it_is Status.ReadFault refl (going_failed session input refused now old left held holds g new left' holds' t.0 t.1 t.2)
+  turn_ends Status.WriteFault t =
+      as_it_is Status.WriteFault refl (going_broken session input refused now old left held holds g new left' holds' t.1.0 t.0 t.1.1 t.1.2)
+  turn_ends Status.NoMemory t = as_it_is Status.NoMemory refl (going_stop session input refused now old left held holds g holds' t)
+  turn_ends Status.InputLimit t =
+      as_it_is Status.InputLimit refl (going_late session input refused now old left held holds g holds' within t.0 t.1)
 
 -- the causes of that end
 pub turn_any : (now : Bool) (new : Place) (before mid after sink_before sink_mid sink_after taken_before taken_after : ℕ) (status : Status)
@@ -124,4 +136,4 @@ pub turn_going : (session : Option Modules) (input : List ℕ) (refused now afte
     (g : IsGoing session input refused now old left held holds)
     → TurnsTold session old new left' holds holds' g.bytes (Replied said) → after ≡ (now || said) → IsGoing session input refused after new left' held holds'
 turn_going session input refused now after said old new left left' held holds holds' g t e =
-    going_on session input refused now after old new left left' held holds holds' g t.1.0 t.0 t.1.1 (e ∙ ap (λ b. now || b) t.1.2) t.1.3
+    going_on session input refused now old left held holds g after new left' holds' t.1.0 t.0 t.1.1 (e ∙ ap (λ b. now || b) t.1.2) t.1.3

@@ -2,7 +2,6 @@
 use Rattle.std.specs.Prelude.{ℕ, ◌==◌, if◌then◌else◌, Bool, List, [], ◌∷◌, ◌++◌, Option, Some, None, codes}
 use Rattle.std.specs.List.{list_any, flat_map}
 use Rattle.gft_io.specs.Outside.{Files}
-use Rattle.gft_io.specs.Lines.{lines_of}
 use Rattle.gft_top.specs.Session.{Reply, Modules, Import, IsImport, IsReply}
 
 -- the replies to lines, one after the other
@@ -19,10 +18,10 @@ bytes_of replies = flat_map (λ reply. reply.text) replies
 abbrev pub has_refusal : List Reply → Bool
 has_refusal replies = list_any (λ reply. reply.refused) replies
 
--- the replies of a session over that file and this input: the import's, and then one for each line
-pub data IsOutput (Faulted : Type 0) (files : Files) (file input : List ℕ) : List Reply → Type 0 where
+-- the replies of a session over that file and these lines: the import's, and then one for each line
+pub data IsOutput (Faulted : Type 0) (files : Files) (file : List ℕ) (lines : List (List ℕ)) : List Reply → Type 0 where
   session : {imported : Import} {replies : List Reply} → IsImport Faulted files file imported
-      → AreReplies imported.modules (lines_of input) replies → IsOutput Faulted files file input (imported.reply ∷ replies)
+      → AreReplies imported.modules lines replies → IsOutput Faulted files file lines (imported.reply ∷ replies)
 
 -- the words of a session: the program's name and a file, which does not begin with a hyphen
 abbrev pub session_file : List (List ℕ) → Option (List ℕ)

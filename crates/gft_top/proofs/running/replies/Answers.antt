@@ -15,7 +15,7 @@ returns-in_default-clause-told g c = λ input e.
     let session = option_map modules_of c.args.grammar.now in
     let left = g.S.Source.left c.args.source.now in
     let held = g.K.Sink.holds c.args.sink.now in
-    going_stop session input c.args.refused c.args.refused start left held held held (going_start session input c.args.refused left held e) (same_told held)
+    going_stop session input c.args.refused c.args.refused start left held held (going_start session input c.args.refused left held e) held (same_told held)
 
 pub lines-init : goal.lines-init
 lines-init g c =
@@ -62,7 +62,7 @@ returns-in-Ended-clause-told g c = λ input e.
     let t = c.in-Ended.ensures in
     subst (λ s. LinesTold session input c.args.refused held holds left s) (sym c.flagged.ensures)
     (turn_ends session input c.args.refused c.lines.refused c.lines.lines c.take_turn.new.lines (g.S.Source.left c.lines.source) left held (g.K.Sink.holds c.lines.sink) holds
-    (i.0 input e) c.in-Ended.status i.1 (t.told (i.0 input e).bytes (i.0 input e).pends))
+    (i.0 input e) i.1 c.in-Ended.status (t.told (i.0 input e).bytes (i.0 input e).pends))
 
 pub returns-in-Ended-clause-any : goal.returns-in-Ended-clause-any
 returns-in-Ended-clause-any g c =

@@ -46,7 +46,7 @@ pub returns-in-Err-clause-told : goal.returns-in-Err-clause-told
 returns-in-Err-clause-told g c = λ input files e f.
     subst (λ (o : Option (List ℕ)). RunTold (Rose (g.F.Store.faults c.args.store.now) (g.F.Store.faults c.args.store.now)) files o input
     (g.K.Sink.holds c.args.sink.now) (g.K.Sink.holds c.write_all.new.sink) (g.S.Source.left c.args.source.now) WriteFault)
-    (c.in-None.ensures ∙ same_words c.deref.ensures.value) tt
+    (c.in-None.ensures ∙ same_words c.deref.ensures.value) c.in-Err.ensures.part
 
 pub returns-in-Err-clause-any : goal.returns-in-Err-clause-any
 returns-in-Err-clause-any g c =
