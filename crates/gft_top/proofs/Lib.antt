@@ -16,4 +16,5 @@ mod Again
 mod Taken
 mod Modules
 mod Texts
+mod OnceLemmas
 pub mod SpeechLemmas

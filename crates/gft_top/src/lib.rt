@@ -16,5 +16,5 @@ mod syntax;
 mod token;
 
 pub use read::{read_abstract, read_concrete, spelled_once};
-pub use running::{Status, run};
+pub use running::{Status, answered_once, run};
 pub use syntax::{AbstractModule, ConcreteModule, FunDecl, Item, Lin};

@@ -5,7 +5,7 @@ ghost use Rattle.gft_io.specs.Outside.{Files, Rose, Told, Same, raised};
 ghost use Rattle.gft_io.specs.Lines.{input_limit, IsLine};
 ghost use Rattle.gft_io.specs.Place.{count, Pends};
 ghost use Rattle.gft_top.specs.Seen.{reply_of, modules_of};
-ghost use Rattle.gft_top.specs.Run.{session_file};
+ghost use Rattle.gft_top.specs.Run.{session_file, ImportedOnce, AnsweredOnce};
 ghost use Rattle.gft_top.specs.Ends.{Puts, Responds, flagged, TurnsTold, Advances, HasCause, LinesTold, LinesAny, SessionTold, RunTold, RunAny};
 
 use crate::answer::answer;
@@ -219,3 +219,9 @@ pub fn run<S: Source, K: Sink, F: Store>(
         },
     }
 }
+
+/// The files, the file's name and the lines of a session determine what is written.
+pub fn answered_once()
+    ensures of_import { ImportedOnce }
+    ensures of_output { AnsweredOnce }
+{}
