@@ -1,25 +1,21 @@
 -- The output of a session is one.
-use Rattle.std.proofs.Common.{◌≡◌, ◌⊎◌, inl, inr, ◌<◌, ◌≤◌, ℕ, Bool, true, false, List, [], ◌∷◌, ◌++◌, length, drop, codes, Option, Some, None, refl, sym, ap, ◌∙◌, subst, arith}
+use Rattle.std.proofs.Common.{◌≡◌, ◌⊎◌, inl, inr, ℕ, true, List, [], ◌∷◌, ◌++◌, length, drop, codes, Option, Some, None, refl, sym, ap, ◌∙◌, subst, arith}
 use Rattle.std.proofs.lemmas.Bool.{false≢true}
 use Rattle.std.proofs.lemmas.Str.{chars_past_char}
-use Rattle.std.specs.Str.{chars, IsUtf8}
+use Rattle.std.specs.Str.{chars}
 use Rattle.std.specs.Char.{is_whitespace}
 use Rattle.std.specs.List.{list_all}
-use Rattle.gft_core.specs.Words.{joined}
 use Rattle.gft_core.specs.declared.tree.Tree.{Tree}
-use Rattle.gft_io.specs.Outside.{Files, Rose}
-use Rattle.gft_io.specs.Lines.{line_limit}
+use Rattle.gft_io.specs.Outside.{Files}
 use Rattle.gft_tree.specs.Spelling.{Spells}
 use Rattle.gft_tree.proofs.AnswerLemmas.{spells_reads, is_read}
 use Rattle.gft_top.specs.declared.syntax.AbstractModule.{AbstractModule}
 use Rattle.gft_top.specs.declared.syntax.ConcreteModule.{ConcreteModule}
 use Rattle.gft_top.specs.FirstForm.{IsAbstractText, IsConcreteText}
 use Rattle.gft_top.specs.Reading.{abstract_of, concrete_of}
-use Rattle.gft_top.specs.Fitting.{fits}
-use Rattle.gft_top.specs.Speech.{words_said}
 use Rattle.gft_top.specs.Files.{base_of, file_part, beside}
 use Rattle.gft_top.specs.Session.{Reply, Modules, Import, IsNotLoaded, failed, missing, too_long as too_long_file, IsLoaded, IsAbstractSource, IsConcreteSource, IsConcreteAt, IsAbstractAt, IsNotConcrete, no_source, no_form, IsNotAbstract, no_abstract_source, no_abstract_form, IsImport, other_ending, no_concrete, no_abstract, unfitting, fitting, IsBlank, Linearizes, IsTyped, IsReply, too_long, blank, said, other as unsaid}
-use Rattle.gft_top.specs.Seen.{refused_import, accepted_import, Joins, ImportsBeside, spoken}
+use Rattle.gft_top.specs.Seen.{refused_import, Joins, ImportsBeside, spoken}
 use Rattle.gft_top.specs.Run.{AreReplies, none, next, IsOutput, session as output, IsUnread}
 use Rattle.gft_top.proofs.Taken.{some_is}
 use Rattle.gft_top.proofs.Texts.{once, abstract_found, abstract_read, concrete_found, concrete_read}

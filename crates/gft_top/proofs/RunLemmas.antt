@@ -2,7 +2,7 @@
 use Rattle.std.proofs.lemmas.Grind.{flat_map-append}
 use Rattle.std.proofs.lemmas.List.Folds.{list_any-append}
 use Rattle.std.proofs.Math.Seq.{take-append-add}
-use Rattle.std.proofs.Common.{◌≡◌, ◌≢◌, ◌⊎◌, inl, inr, ◌<◌, ◌≤◌, ◌+◌, ◌-◌, ℕ, Bool, true, false, ◌||◌, List, [], ◌∷◌, ◌++◌, length, take, Option, Some, None, refl, sym, ap, ◌∙◌, subst, append_assoc, append-nil, length-append, arith}
+use Rattle.std.proofs.Common.{◌≡◌, ◌≢◌, inl, inr, ◌<◌, ◌≤◌, ◌+◌, ◌-◌, ℕ, Bool, true, false, ◌||◌, List, [], ◌∷◌, ◌++◌, length, take, Option, Some, None, refl, sym, ap, ◌∙◌, subst, append_assoc, append-nil, length-append, arith}
 use Rattle.gft_io.specs.Outside.{Told, Same, Appends, AppendsPart}
 use Rattle.gft_io.specs.Lines.{lines_of, ended_lines, first_line, after_line, line_size, input_limit, HasNoNewline}
 use Rattle.gft_io.specs.Place.{Place, start, kept, Pends, Passes}
@@ -11,7 +11,7 @@ use Rattle.gft_io.proofs.PlaceLemmas.{none-append}
 use Rattle.gft_io.proofs.ToldLemmas.{Told-join}
 use Rattle.gft_top.specs.Session.{Reply, Modules, IsReply}
 use Rattle.gft_top.specs.Run.{AreReplies, none, next, bytes_of, has_refusal}
-use Rattle.gft_top.specs.Ends.{AppendsThenPart, IsReplied, IsAnswered, IsBegun, IsBroken, EndWithin, IsReadTo}
+use Rattle.gft_top.specs.Ends.{AppendsThenPart, IsHeldUp, IsReplied, IsAnswered, IsBegun, IsBroken, EndWithin, IsReadTo}
 
 -- the first lines of an input were replied to, and the others are still to be cut
 pub record IsGoing (session : Option Modules) (input : List ℕ) (refused now : Bool) (place : Place) (left held holds : Option (List ℕ)) : Type 0 where
@@ -186,23 +186,27 @@ module _ (session : Option Modules) (input : List ℕ) (refused now : Bool) (old
   ends_within taken rest (b ∷ bytes) e p u =
       inl (sym (g.ended (λ z. cc) taken ∙ ap (λ t. g.first ++ t) (ended_lines-none taken u) ∙ append-nil g.first))
 
-  read_to : (new : Place) (left' : Option (List ℕ)) → Pends new left' g.bytes → HasNoNewline (kept new) → IsReadTo input left' g.first
-  read_to new None p k = absurd p
-  read_to new (Some rest) p k =
+  read_to : (new : Place) (left' : Option (List ℕ)) → IsHeldUp old new left' g.bytes → IsReadTo input left' g.first
+  read_to new None h = absurd h.pends
+  read_to new (Some rest) h =
+      let p = h.pends in
       let held = p.1 in
-      let unended : HasNoNewline p.0 = subst (λ (t : List ℕ). HasNoNewline t) (sym held.3) (none-append held.0 (kept new) held.1 k) in
+      let unended : HasNoNewline p.0 = subst (λ (t : List ℕ). HasNoNewline t) (sym held.3) (none-append held.0 (kept new) held.1 h.unended) in
+      let all : new.passed + new.skipped + length new.begun + length new.ahead ≤ input_limit = h.within in
+      let size = ap length held.3 in
       record {
         taken = g.done ++ p.0;
         rest = rest;
         whole = g.whole ∙ ap (λ t. g.done ++ t) p.2 ∙ sym (append_assoc g.done p.0 rest);
         remains = refl;
+        within = omega (arith, length-append g.done p.0, g.size, h.passed, all, size, held.2, length-append held.0 (kept new), length-append new.begun new.ahead);
         end = ends_within p.0 rest g.bytes refl p.2 unended;
       }
 
   -- where the source failed
-  pub going_failed : (new : Place) (left' holds' : Option (List ℕ)) → Pends new left' g.bytes → HasNoNewline (kept new) → Told Same holds holds'
+  pub going_failed : (new : Place) (left' holds' : Option (List ℕ)) → IsHeldUp old new left' g.bytes → Told Same holds holds'
       → (lines : List (List ℕ)) × IsReadTo input left' lines × IsReplied session lines held holds'
-  going_failed new left' holds' p k s = (g.first, read_to new left' p k, stopped holds' s)
+  going_failed new left' holds' h s = (g.first, read_to new left' h, stopped holds' s)
 
   -- where the sink failed
   pub going_broken : (new : Place) (left' holds' : Option (List ℕ)) (reply : Reply) → Passes old new left' g.bytes → IsReply session (first_line g.bytes) reply

@@ -1,11 +1,12 @@
 -- Lemmas on one turn of a session.
-use Rattle.std.proofs.Common.{Bool, true, false, ◌||◌, ◌-◌, arith, ◌≡◌, ◌<◌, ◌≤◌, ◌↔◌, ℕ, List, Option, Some, None, Result, Ok, Err, IsErrOf, refl, sym, ap, ◌∙◌, subst}
+use Rattle.std.proofs.lemmas.Bool.{cases_lt}
+use Rattle.std.proofs.Common.{inl, inr, Bool, true, false, ◌||◌, ◌-◌, arith, ◌≡◌, ◌<◌, ◌≤◌, ◌↔◌, ℕ, List, Option, Some, None, Result, Ok, Err, IsErrOf, refl, sym, ap, ◌∙◌, subst}
 use Rattle.std.specs.declared.vec.Vec.{Vec}
 use Rattle.std.specs.declared.alloc.Global.{Global}
 use Rattle.gft_io.specs.Outside.{Rose, raised}
-use Rattle.gft_io.specs.Lines.{first_line, input_limit, HasNoNewline}
+use Rattle.gft_io.specs.Lines.{first_line, input_limit}
 use Rattle.gft_io.specs.Place as place
-use Rattle.gft_io.specs.Place.{Place, kept, count, Pends, Passes, Answers, KeepsAll}
+use Rattle.gft_io.specs.Place.{Place, count, Pends, Passes, Answers, KeepsAll}
 use Rattle.gft_io.specs.declared.lines.LineErr.{LineErr}
 use Rattle.gft_io.specs.declared.lines.LineErr.TheVariants.{ReadFault, InputLimit, LineTooLong, NoMemory}
 use Rattle.gft_top.specs.declared.reply.Reply as code
@@ -14,7 +15,7 @@ use Rattle.gft_top.specs.declared.running.Turn.{Turn}
 use Rattle.gft_top.specs.declared.running.Turn.TheVariants.{Replied, Ended}
 use Rattle.gft_top.specs.Session.{Reply, Modules, IsReply, too_long}
 use Rattle.gft_top.specs.Seen.{reply_of}
-use Rattle.gft_top.specs.Ends.{Puts, Advances, HasCause, Responds, TurnsTold, LinesTold, LinesAny, flagged}
+use Rattle.gft_top.specs.Ends.{Puts, IsHeldUp, Advances, HasCause, Responds, TurnsTold, LinesTold, LinesAny, flagged}
 use Rattle.gft_top.proofs.RunLemmas.{IsGoing, same_told, going_on, going_end, going_stop, going_late, going_failed, going_broken}
 use Rattle.gft_top.proofs.SessionLemmas.{rose_later}
 
@@ -40,16 +41,22 @@ replied_told session old new left held holds bytes (Err InputLimit) reply before
 replied_told session old new left held holds bytes (Err ReadFault) reply before after turn r q a = absurd r
 replied_told session old new left held holds bytes (Err NoMemory) reply before after turn r q a = absurd r
 
+within_limit : (n : ℕ) → (input_limit < n → ⊥) → n ≤ input_limit
+within_limit n h = elim (cases_lt input_limit n) [ inl l ↦ absurd (h l) | inr l ↦ l ]
+
+held_up : (old new : Place) (left : Option (List ℕ)) (bytes : List ℕ) → Pends new left bytes → KeepsAll old new → count new ≤ input_limit → IsHeldUp old new left bytes
+held_up old new left bytes p k w = record { pends = p; passed = k.passed; unended = k.unended; within = w }
+
 -- no line was found, or there was no memory for its reply
 pub ended_told : (session : Option Modules) (old new : Place) (left holds : Option (List ℕ)) (bytes : List ℕ) (found : Found) (status : Status)
-    → Responds session found (Err status) → Answers old new left bytes found → (IsErrOf found ReadFault → HasNoNewline (kept new))
+    → Responds session found (Err status) → Answers old new left bytes found → (IsErrOf found ReadFault → KeepsAll old new) → (IsErrOf found InputLimit ↔ (input_limit < count new))
     → TurnsTold session old new left holds holds bytes (Ended status)
-ended_told session old new left holds bytes (Ok (Some line)) status r a k = subst (λ (s : Status). TurnsTold session old new left holds holds bytes (Ended s)) (sym r) (same_told holds)
-ended_told session old new left holds bytes (Ok None) status r a k = subst (λ (s : Status). TurnsTold session old new left holds holds bytes (Ended s)) (sym r) (a.0, a.1, same_told holds)
-ended_told session old new left holds bytes (Err LineTooLong) status r a k = subst (λ (s : Status). TurnsTold session old new left holds holds bytes (Ended s)) (sym r) (same_told holds)
-ended_told session old new left holds bytes (Err InputLimit) status r a k = subst (λ (s : Status). TurnsTold session old new left holds holds bytes (Ended s)) (sym r) (a.0, same_told holds)
-ended_told session old new left holds bytes (Err ReadFault) status r a k = subst (λ (s : Status). TurnsTold session old new left holds holds bytes (Ended s)) (sym r) (a, k refl, same_told holds)
-ended_told session old new left holds bytes (Err NoMemory) status r a k = subst (λ (s : Status). TurnsTold session old new left holds holds bytes (Ended s)) (sym r) (same_told holds)
+ended_told session old new left holds bytes (Ok (Some line)) status r a k l = subst (λ (s : Status). TurnsTold session old new left holds holds bytes (Ended s)) (sym r) (same_told holds)
+ended_told session old new left holds bytes (Ok None) status r a k l = subst (λ (s : Status). TurnsTold session old new left holds holds bytes (Ended s)) (sym r) (a.0, a.1, same_told holds)
+ended_told session old new left holds bytes (Err LineTooLong) status r a k l = subst (λ (s : Status). TurnsTold session old new left holds holds bytes (Ended s)) (sym r) (same_told holds)
+ended_told session old new left holds bytes (Err InputLimit) status r a k l = subst (λ (s : Status). TurnsTold session old new left holds holds bytes (Ended s)) (sym r) (a.0, same_told holds)
+ended_told session old new left holds bytes (Err ReadFault) status r a k l = subst (λ (s : Status). TurnsTold session old new left holds holds bytes (Ended s)) (sym r) (held_up old new left bytes a (k refl) (within_limit (count new) (λ h. cc (l.1 h))), same_told holds)
+ended_told session old new left holds bytes (Err NoMemory) status r a k l = subst (λ (s : Status). TurnsTold session old new left holds holds bytes (Ended s)) (sym r) (same_told holds)
 
 -- a turn that replied passed bytes
 pub replied_advances : (session : Option Modules) (old new : Place) (found : Found) (reply : code.Reply) (turn : Turn)
@@ -103,7 +110,7 @@ module _ (session : Option Modules) (input : List ℕ) (refused now : Bool) (old
   turn_ends Status.SomeRefused t = absurd t
   turn_ends Status.Usage t = absurd t
   turn_ends Status.ReadFault t =
-      as_it_is Status.ReadFault refl (going_failed session input refused now old left held holds g new left' holds' t.0 t.1 t.2)
+      as_it_is Status.ReadFault refl (going_failed session input refused now old left held holds g new left' holds' t.0 t.1)
   turn_ends Status.WriteFault t =
       as_it_is Status.WriteFault refl (going_broken session input refused now old left held holds g new left' holds' t.1.0 t.0 t.1.1 t.1.2)
   turn_ends Status.NoMemory t = as_it_is Status.NoMemory refl (going_stop session input refused now old left held holds g holds' t)

@@ -56,6 +56,13 @@ Responds session (Err InputLimit) (Err status) = status ≡ Status.InputLimit
 Responds session (Err ReadFault) (Err status) = status ≡ Status.ReadFault
 Responds session (Err NoMemory) (Err status) = status ≡ Status.NoMemory
 
+-- the source failed: these bytes are still to be cut, of which those that were taken have no newline
+pub record IsHeldUp (old new : Place) (left : Option (List ℕ)) (bytes : List ℕ) : Type 0 where
+  pub pends : Pends new left bytes
+  pub passed : new.passed ≡ old.passed
+  pub unended : HasNoNewline (kept new)
+  pub within : count new ≤ input_limit
+
 -- what a turn did where these bytes are still to be cut into lines
 abbrev pub TurnsTold : Option Modules → Place → Place → Option (List ℕ) → Option (List ℕ) → Option (List ℕ) → List ℕ → Turn → Type 0
 TurnsTold session old new left held holds bytes (Replied refused) =
@@ -63,7 +70,7 @@ TurnsTold session old new left held holds bytes (Replied refused) =
 TurnsTold session old new left held holds bytes (Ended Done) = (bytes ≡ []) × Pends new left [] × Told Same held holds
 TurnsTold session old new left held holds bytes (Ended SomeRefused) = ⊥
 TurnsTold session old new left held holds bytes (Ended Usage) = ⊥
-TurnsTold session old new left held holds bytes (Ended Status.ReadFault) = Pends new left bytes × HasNoNewline (kept new) × Told Same held holds
+TurnsTold session old new left held holds bytes (Ended Status.ReadFault) = IsHeldUp old new left bytes × Told Same held holds
 TurnsTold session old new left held holds bytes (Ended WriteFault) =
     Passes old new left bytes × ((reply : Reply) × IsReply session (first_line bytes) reply × Told (AppendsPart reply.text) held holds)
 TurnsTold session old new left held holds bytes (Ended Status.NoMemory) = Told Same held holds
@@ -104,12 +111,13 @@ pub record IsBroken (session : Option Modules) (input : List ℕ) (held holds : 
 abbrev pub EndWithin : List ℕ → List ℕ → List (List ℕ) → Type 0
 EndWithin taken left lines = (lines ≡ ended_lines taken) ⊎ ((left ≡ []) × (lines ≡ lines_of taken))
 
--- the input was read up to here, and the lines that end there are these
+-- the input was read up to some place within the limit, and the lines that end there are these
 pub record IsReadTo (input : List ℕ) (left : Option (List ℕ)) (lines : List (List ℕ)) : Type 0 where
   pub taken : List ℕ
   pub rest : List ℕ
   pub whole : input ≡ taken ++ rest
   pub remains : left ≡ Some rest
+  pub within : length taken ≤ input_limit
   pub end : EndWithin taken rest lines
 
 -- the end of a run at the end of its input, where some reply was a refusal or none was

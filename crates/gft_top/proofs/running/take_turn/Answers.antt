@@ -35,7 +35,7 @@ returns-in-Ok-clause-sink_faults g c = c.put.ensures.faults
 pub returns-in-Err-clause-told : goal.returns-in-Err-clause-told
 returns-in-Err-clause-told g c = λ bytes p.
     ended_told (option_map modules_of c.args.grammar.now) c.args.lines.now c.next-found.new.self (g.S.Source.left c.next-found.new.source) (g.K.Sink.holds c.args.sink.now)
-    bytes c.next-found.result c.in-Err.status c.in-Err.ensures (c.next-found.ensures.answers bytes p) (λ e. (c.next-found.ensures.failed e).1.unended)
+    bytes c.next-found.result c.in-Err.status c.in-Err.ensures (c.next-found.ensures.answers bytes p) (λ e. (c.next-found.ensures.failed e).1) c.next-found.ensures.limit
 
 pub returns-in-Err-clause-advances : goal.returns-in-Err-clause-advances
 returns-in-Err-clause-advances g c = tt
