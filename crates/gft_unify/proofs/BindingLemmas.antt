@@ -1,11 +1,11 @@
 -- Bindings, with one more at the end.
-use Rattle.std.proofs.Common.{◌≡◌, ◌≢◌, ℕ, Bool, true, false, cond, nat_eq, eq-eqb, ne_eqb, List, [], ◌∷◌, ◌++◌, Option, None, Some, refl, sym, ap, subst, ◌∙◌, ⊎_elim, ◌⊎◌, inl, inr, arith}
+use Rattle.std.proofs.Common.{◌≡◌, ◌≢◌, ℕ, suc, ◌<◌, ◌≤◌, length, Bool, true, false, cond, nat_eq, eq-eqb, ne_eqb, List, [], ◌∷◌, ◌++◌, Option, None, Some, refl, sym, ap, subst, ◌∙◌, ⊎_elim, ◌⊎◌, inl, inr, arith}
 use Rattle.std.proofs.lemmas.Bool.Decides.{eqb_tells}
 use Rattle.std.specs.Map.{lookup}
 use Rattle.gft_core.specs.declared.tree.Tree.{Tree}
 use Rattle.gft_core.specs.declared.tree.Tree.TheVariants.{Hole}
 use Rattle.gft_unify.specs.Instances.{inst, hole_count, StandsIn}
-use Rattle.gft_unify.specs.Bindings.{only, with_binding, solved_from, solved, Respects, IsBelow, LinksDown, IsAcyclic}
+use Rattle.gft_unify.specs.Bindings.{only, with_binding, solved_from, solved, Respects, Avoids, LinksOn, bound_after, IsLater, IsEnd, IsAcyclic}
 use Rattle.gft_unify.proofs.Equations.{inst-Hole, hole_count-other}
 use Rattle.gft_unify.proofs.TreeLemmas.{inst-inst, inst-equal, inst-same, hole_count-inst}
 
@@ -27,21 +27,58 @@ lookup-push_none (c ∷ bs) k t j e =
     let rest = lookup-push_none bs k t j parts.1 in
     (ap (λ b. cond b (Some c.1) (lookup (nat_eq j) bs)) parts.0 ∙ rest.0, rest.1)
 
-pub LinksDown-push : (bs : List (ℕ × Tree)) (k : ℕ) (t : Tree) → LinksDown bs → IsBelow k t → LinksDown (bs ++ (k, t) ∷ [])
-LinksDown-push [] k t d h = (h, tt)
-LinksDown-push (c ∷ bs) k t d h = (d.0, LinksDown-push bs k t d.1 h)
+Avoids-push : (bs : List (ℕ × Tree)) (i k : ℕ) (t : Tree) → Avoids i bs → t ≢ Hole i → Avoids i (bs ++ (k, t) ∷ [])
+Avoids-push [] i k t a ne = (ne, tt)
+Avoids-push (c ∷ bs) i k t a ne = (a.0, Avoids-push bs i k t a.1 ne)
 
--- a hole that is bound to a hole is bound to one below it
-pub LinksDown-lookup : (bs : List (ℕ × Tree)) (k : ℕ) (t : Tree) → LinksDown bs → lookup (nat_eq k) bs ≡ Some t → IsBelow k t
-LinksDown-lookup [] k t d e = absurd cc
-LinksDown-lookup (c ∷ bs) k t d e = by (eqb_tells k c.0) (LinksDown-lookup bs k t d.1)
+lookup-cons_none : (c : ℕ × Tree) (bs : List (ℕ × Tree)) (j : ℕ) → lookup (nat_eq j) (c ∷ bs) ≡ None → (j ≢ c.0) × (lookup (nat_eq j) bs ≡ None)
+lookup-cons_none c bs j e =
+    let parts = cond_none (nat_eq j c.0) c.1 (lookup (nat_eq j) bs) e in
+    (λ same. let q = eq-eqb j c.0 same in let p = parts.0 in absurd cc, parts.1)
+
+-- a hole is bound to another tree that is no bound hole
+pub LinksOn-push : (bs : List (ℕ × Tree)) (k : ℕ) (t : Tree) → LinksOn bs → IsEnd bs t → t ≢ Hole k → LinksOn (bs ++ (k, t) ∷ [])
+LinksOn-push [] k t l end ne = ((ne, tt), tt)
+LinksOn-push (c ∷ bs) k t l end ne =
+    let apart : t ≢ Hole c.0 = λ e. (lookup-cons_none c bs c.0 (end c.0 e)).0 refl in
+    (Avoids-push (c ∷ bs) c.0 k t l.0 apart, LinksOn-push bs k t l.1 (λ j e. (lookup-cons_none c bs j (end j e)).1) ne)
+
+-- what avoids a hole binds none to it
+Avoids-lookup : (bs : List (ℕ × Tree)) (i k : ℕ) (t : Tree) → Avoids i bs → lookup (nat_eq k) bs ≡ Some t → t ≢ Hole i
+Avoids-lookup [] i k t a e = absurd cc
+Avoids-lookup (c ∷ bs) i k t a e = by (nat_eq k c.0) refl (Avoids-lookup bs i k t a.1)
   where
-    by : ((nat_eq k c.0 ≡ true) × (k ≡ c.0)) ⊎ ((nat_eq k c.0 ≡ false) × (k ≢ c.0)) → (lookup (nat_eq k) bs ≡ Some t → IsBelow k t) → IsBelow k t
-    by (inl p) rest =
-        let same : Some c.1 ≡ Some t = sym (ap (λ b. cond b (Some c.1) (lookup (nat_eq k) bs)) p.0) ∙ e in
-        let tree : c.1 ≡ t = cc in
-        subst (λ j. IsBelow j t) (sym p.1) (subst (IsBelow c.0) tree d.0)
-    by (inr p) rest = rest (sym (ap (λ b. cond b (Some c.1) (lookup (nat_eq k) bs)) p.0) ∙ e)
+    by : (b : Bool) → nat_eq k c.0 ≡ b → (lookup (nat_eq k) bs ≡ Some t → t ≢ Hole i) → t ≢ Hole i
+    by true p rest =
+        let same : Some c.1 ≡ Some t = sym (ap (λ b. cond b (Some c.1) (lookup (nat_eq k) bs)) p) ∙ e in
+        let tree : c.1 ≡ t = cc in subst (λ u. u ≢ Hole i) tree a.0
+    by false p rest = rest (sym (ap (λ b. cond b (Some c.1) (lookup (nat_eq k) bs)) p) ∙ e)
+
+-- a hole that is bound to a hole is bound to one that was bound later, or is loose
+pub LinksOn-lookup : (bs : List (ℕ × Tree)) (k : ℕ) (t : Tree) → LinksOn bs → lookup (nat_eq k) bs ≡ Some t → IsLater bs k t
+LinksOn-lookup [] k t l e j is = absurd cc
+LinksOn-lookup (c ∷ bs) k t l e j is = by (nat_eq k c.0) refl (LinksOn-lookup bs k t l.1)
+  where
+    apart : j ≢ c.0
+    apart same = Avoids-lookup (c ∷ bs) c.0 k t l.0 e (is ∙ ap Hole same)
+
+    later : bound_after (c ∷ bs) j ≡ suc (bound_after bs j)
+    later = ap (λ b. cond b 0 (suc (bound_after bs j))) (ne_eqb j c.0 apart)
+
+    by : (b : Bool) → nat_eq k c.0 ≡ b → (lookup (nat_eq k) bs ≡ Some t → IsLater bs k t) → bound_after (c ∷ bs) k < bound_after (c ∷ bs) j
+    by true p rest =
+        let first : bound_after (c ∷ bs) k ≡ 0 = ap (λ b. cond b 0 (suc (bound_after bs k))) p in omega (arith, later)
+    by false p rest =
+        let next : bound_after (c ∷ bs) k ≡ suc (bound_after bs k) = ap (λ b. cond b 0 (suc (bound_after bs k))) p in
+        let less = rest (sym (ap (λ b. cond b (Some c.1) (lookup (nat_eq k) bs)) p) ∙ e) j is in omega (arith, later)
+
+pub bound_after-le : (bs : List (ℕ × Tree)) (k : ℕ) → bound_after bs k ≤ length bs
+bound_after-le [] k = omega arith
+bound_after-le (c ∷ bs) k = by (nat_eq k c.0) refl (bound_after-le bs k)
+  where
+    by : (b : Bool) → nat_eq k c.0 ≡ b → bound_after bs k ≤ length bs → bound_after (c ∷ bs) k ≤ length (c ∷ bs)
+    by true p rest = omega (arith, ap (λ b. cond b 0 (suc (bound_after bs k))) p)
+    by false p rest = omega (arith, ap (λ b. cond b 0 (suc (bound_after bs k))) p)
 
 module _ (θ : ℕ → Tree) where
   pub Respects-push : (bs : List (ℕ × Tree)) (k : ℕ) (t : Tree) → Respects θ bs → θ k ≡ inst θ t → Respects θ (bs ++ (k, t) ∷ [])

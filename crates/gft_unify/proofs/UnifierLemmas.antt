@@ -63,7 +63,7 @@ module _ (pairs old new : List (Tree × Tree)) (bs : List (ℕ × Tree)) (k : �
     (parts : StaysInside pairs new (Ok (Some (k, r)))) (amounts : IsWhatIsLeft pairs old bs) (acyclic : IsAcyclic bs) where
   pub refused-cycle : (u : Tree) → u ≡ inst (solved bs) r.now → StandsIn k (inst (solved bs) r.now) → HasNoUnifier pairs × IsCycle pairs k u
   refused-cycle u e stands =
-      let other : inst (solved bs) r.now ≢ Hole k = ended (solved bs) bs k acyclic.loose r.now found.3 found.1.other in (
+      let other : inst (solved bs) r.now ≢ Hole k = ended (solved bs) bs k acyclic.loose r.now found.3 found.1 in (
         λ θ h.
             let o = (amounts θ).0 h in let equal = ((found.0 θ o.1).0 o.0).1 in
             let whole : θ k ≡ inst θ (inst (solved bs) r.now) = equal ∙ sym (inst-equal _ θ (solved-respected θ bs o.1) r.now) ∙ sym (inst-inst θ (solved bs) r.now) in

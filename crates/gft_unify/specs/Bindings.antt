@@ -1,5 +1,5 @@
 -- Bindings as they are made, the oldest first: a bound tree may have bound holes in it.
-use Rattle.std.specs.Prelude.{◌≡◌, ◌≢◌, ℕ, suc, ◌<◌, nat_eq, List, map, [], ◌∷◌, None, if◌then◌else◌}
+use Rattle.std.specs.Prelude.{◌≡◌, ◌≢◌, ℕ, suc, ◌<◌, ◌-◌, nat_eq, List, length, map, [], ◌∷◌, None, if◌then◌else◌}
 use Rattle.std.specs.Option.{option_map}
 use Rattle.std.specs.Borrow.{Bor}
 use Rattle.std.specs.Map.{lookup}
@@ -34,14 +34,24 @@ abbrev pub Respects : (ℕ → Tree) → List (ℕ × Tree) → Type 0
 Respects θ [] = Unit {0}
 Respects θ (b ∷ bindings) = (θ b.0 ≡ inst θ b.1) × Respects θ bindings
 
--- where the tree is a hole, its number is below k
-abbrev pub IsBelow : ℕ → Tree → Type 0
-IsBelow k t = (j : ℕ) → t ≡ Hole j → j < k
+-- no hole is bound to hole k
+abbrev pub Avoids : ℕ → List (ℕ × Tree) → Type 0
+Avoids k [] = Unit {0}
+Avoids k (b ∷ bindings) = (b.1 ≢ Hole k) × Avoids k bindings
 
--- a hole that is bound to a hole has the greater number
-abbrev pub LinksDown : List (ℕ × Tree) → Type 0
-LinksDown [] = Unit {0}
-LinksDown (b ∷ bindings) = IsBelow b.0 b.1 × LinksDown bindings
+-- no hole is bound to itself, or to a hole that was bound before it
+abbrev pub LinksOn : List (ℕ × Tree) → Type 0
+LinksOn [] = Unit {0}
+LinksOn (b ∷ bindings) = Avoids b.0 (b ∷ bindings) × LinksOn bindings
+
+-- how many bindings were made before that of hole k; all of them, where it is loose
+abbrev pub bound_after : List (ℕ × Tree) → ℕ → ℕ
+bound_after [] k = 0
+bound_after (b ∷ bindings) k = if nat_eq k b.0 then 0 else suc (bound_after bindings k)
+
+-- where the tree is a hole, it was bound later than hole k, or is loose
+abbrev pub IsLater : List (ℕ × Tree) → ℕ → Tree → Type 0
+IsLater bindings k t = (j : ℕ) → t ≡ Hole j → bound_after bindings k < bound_after bindings j
 
 -- the tree is no bound hole
 abbrev pub IsEnd : List (ℕ × Tree) → Tree → Type 0
@@ -54,9 +64,10 @@ pub record IsAcyclic (bindings : List (ℕ × Tree)) : Type 0 where
   pub settled : (j k : ℕ) → lookup (nat_eq k) bindings ≢ None
       → hole_count (nat_eq k) (solved bindings j) ≡ 0
 
--- one more than the number of a hole, and 0 for another tree
-abbrev pub link_height : Tree → ℕ
-link_height = folded (λ f heights. 0) (λ n. 0) (λ w. 0) suc
+-- how many bindings a chain that stands at the tree can still go through, at the most
+abbrev pub links_left : List (ℕ × Tree) → Tree → ℕ
+links_left bindings =
+    folded (λ f counts. 0) (λ n. 0) (λ w. 0) (λ k. suc (length bindings) - bound_after bindings k)
 
 -- the trees, without where they lie
 abbrev pub trees_of : List (Bor Tree) → List Tree

@@ -1,5 +1,5 @@
 -- How the pairs that are still to be made equal shrink.
-use Rattle.std.specs.Prelude.{◌≡◌, ◌↔◌, ℕ, ◌+◌, nat_eq, List, [], map, Option, None, Some, Result, Ok, Err}
+use Rattle.std.specs.Prelude.{◌≡◌, ◌≢◌, ◌↔◌, ℕ, ◌+◌, nat_eq, List, [], map, Option, None, Some, Result, Ok, Err}
 use Rattle.std.specs.Borrow.{Bor}
 use Rattle.std.specs.Map.{lookup}
 use Rattle.gft_core.specs.declared.tree.Tree.{Tree}
@@ -11,7 +11,6 @@ use Rattle.gft_unify.specs.Substitutions.{MakesEqual}
 use Rattle.gft_unify.specs.Parts.{IsPart, ArePairedParts, AreBoundParts}
 use Rattle.gft_unify.specs.Heads.{IsClash}
 use Rattle.gft_unify.specs.Bindings.{Respects, IsEnd}
-use Rattle.gft_unify.specs.Comparison.{MayBind}
 
 -- the pairs, without where they lie
 abbrev pub pairs_of : List (Bor Tree × Bor Tree) → List (Tree × Tree)
@@ -34,10 +33,12 @@ AmountsToBinding bindings old new k t =
     (θ : ℕ → Tree) → Respects θ bindings → MakesEqual θ old ↔ (MakesEqual θ new × (θ k ≡ inst θ t))
 
 -- what the search for the next hole to bind finds
-abbrev pub FindsBinding : List (ℕ × Tree) → List (Tree × Tree) → List (Tree × Tree) → Result (Option (ℕ × Bor Tree)) UnifyErr → Type 0
+abbrev pub FindsBinding : List (ℕ × Tree) → List (Tree × Tree) → List (Tree × Tree)
+    → Result (Option (ℕ × Bor Tree)) UnifyErr → Type 0
 FindsBinding bindings old new (Ok None) = AmountsTo bindings old [] × (new ≡ [])
 FindsBinding bindings old new (Ok (Some b)) =
-    AmountsToBinding bindings old new b.0 b.1.now × MayBind b.0 b.1.now × (lookup (nat_eq b.0) bindings ≡ None) × IsEnd bindings b.1.now
+    AmountsToBinding bindings old new b.0 b.1.now × (b.1.now ≢ Hole b.0) × (lookup (nat_eq b.0) bindings ≡ None)
+    × IsEnd bindings b.1.now
 FindsBinding bindings old new (Err (Clash a b)) =
     IsClash a b × ((θ : ℕ → Tree) → Respects θ bindings → ¬ MakesEqual θ old)
 FindsBinding bindings old new (Err (Occurs k t)) = ⊥
@@ -52,7 +53,8 @@ StaysInside pairs new (Err (Occurs k t)) = Unit {0}
 StaysInside pairs new (Err NoMemory) = Unit {0}
 
 -- what is found is made of parts of the old pairs and of what is bound
-abbrev pub IsMadeOfParts : List (ℕ × Tree) → List (Tree × Tree) → List (Tree × Tree) → Result (Option (ℕ × Bor Tree)) UnifyErr → Type 0
+abbrev pub IsMadeOfParts : List (ℕ × Tree) → List (Tree × Tree) → List (Tree × Tree)
+    → Result (Option (ℕ × Bor Tree)) UnifyErr → Type 0
 IsMadeOfParts bindings old new result =
     (pairs : List (Tree × Tree)) → AreBoundParts pairs bindings → ArePairedParts pairs old → StaysInside pairs new result
 

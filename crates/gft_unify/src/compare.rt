@@ -12,6 +12,8 @@ pub enum Comparison<'a> {
     Same,
     /// One is the hole of this number, and this is the other.
     Bind(u32, &'a Tree),
+    /// They are the holes of these numbers, which differ.
+    Join(u32, u32),
     /// They are applications of one function to as many arguments, which have to become equal.
     Descend(&'a [Tree], &'a [Tree]),
     /// Their heads keep them apart.
@@ -25,7 +27,7 @@ fn same_name(a: &Name, b: &Name) -> bool
     a.as_str() == b.as_str()
 }
 
-/// Compares two holes: that of the greater number is the one to bind.
+/// Compares two holes.
 fn compare_holes<'a>(left: &'a Tree, hole: u32, right: &'a Tree, other: u32) -> Comparison<'a>
     requires left { left.now ≡ Tree.Hole hole }
     requires right { right.now ≡ Tree.Hole other }
@@ -34,10 +36,7 @@ fn compare_holes<'a>(left: &'a Tree, hole: u32, right: &'a Tree, other: u32) -> 
     if hole == other {
         return Comparison::Same;
     }
-    if other < hole {
-        return Comparison::Bind(hole, right);
-    }
-    Comparison::Bind(other, left)
+    Comparison::Join(hole, other)
 }
 
 /// Compares a hole with a tree.

@@ -65,7 +65,8 @@ impl Subst {
 
     /// The nodes of the tree with each bound hole replaced, each before its arguments.
     fn nodes<'a>(&'a self, alloc: Global, tree: &'a Tree) -> Result<Vec<&'a Tree>, NoMemory>
-        ensures { IfOk result (λ found. Builds (inst (tree_at self.now) tree.now) (trees_of found.items)) }
+        ensures { IfOk result
+            (λ found. Builds (inst (tree_at self.now) tree.now) (trees_of found.items)) }
     {
         let mut found = Vec::new(alloc);
         let mut pending = Vec::new(alloc);

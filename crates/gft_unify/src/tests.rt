@@ -117,7 +117,7 @@ fn answer(alloc: Global, text: &str) -> Result<String, Fail> {
 }
 
 /// Pairs, and what is answered for them.
-const ANSWERS: [(&str, &str); 38] = [
+const ANSWERS: [(&str, &str); 40] = [
     ("", ""),
     ("a = a", ""),
     ("a = b", "clash a | b"),
@@ -147,6 +147,8 @@ const ANSWERS: [(&str, &str); 38] = [
     ("?1 = ?2 ; ?2 = ?3 ; ?3 = a", "?1: a, ?2: a, ?3: a"),
     ("?3 = ?2 ; ?2 = ?1", "?2: ?1, ?3: ?1"),
     ("?1 = ?2 ; ?1 = ?3", "?2: ?1, ?3: ?1"),
+    ("?1 = ?2 ; ?2 = ?3", "?1: ?2, ?3: ?2"),
+    ("?2 = ?4 ; ?1 = ?2 ; ?3 = ?4", "?2: ?1, ?3: ?1, ?4: ?1"),
     ("?1 = f/1 ?2 ; ?2 = g/1 ?3", "?1: f/1 g/1 ?3, ?2: g/1 ?3"),
     ("?1 = f/1 ?2 ; ?1 = f/1 a", "?1: f/1 a, ?2: a"),
     (
@@ -234,5 +236,38 @@ fn a_chain_of_bindings_gives_a_deep_answer(rt: HostRuntime) -> Result<(), Fail> 
     };
     let tree = found.apply(alloc, &Tree::Hole(1))?;
     assert_eq!(rt; levels(&tree), 2000);
+    Ok(())
+}
+
+/// How many holes are in the long chain: a moment's work where a look-up follows few links, and
+/// minutes in a build with checks where it follows each.
+const LINKS: u32 = 100_000;
+
+#[test]
+fn a_long_chain_of_holes_has_short_look_ups(rt: HostRuntime) -> Result<(), Fail> {
+    let alloc = rt.alloc();
+    let mut pairs = Vec::new(alloc);
+    pairs.push((Tree::Hole(1), Tree::Int(7)))?;
+    for hole in 1..LINKS {
+        pairs.push((Tree::Hole(hole), Tree::Hole(hole + 1)))?;
+    }
+    let Ok(found) = unify(alloc, &pairs) else {
+        return Err("no unifier".into());
+    };
+    for hole in 1..LINKS + 1 {
+        assert!(rt; matches!(found.get(hole), Some(Tree::Int(7))));
+    }
+    Ok(())
+}
+
+#[test]
+fn a_clash_has_copies_of_deep_trees(rt: HostRuntime) -> Result<(), Fail> {
+    let alloc = rt.alloc();
+    let mut pairs = Vec::new(alloc);
+    pairs.push((nested(alloc, 2000, Tree::Hole(1))?, Tree::Int(7)))?;
+    let Err(UnifyErr::Clash(left, _)) = unify(alloc, &pairs) else {
+        return Err("no clash".into());
+    };
+    assert_eq!(rt; levels(&left), 2000);
     Ok(())
 }

@@ -25,13 +25,18 @@ fn push_pairs<'a>(work: &mut Work<'a>, pairs: &'a [(Tree, Tree)]) -> Result<(), 
 
 /// The most general substitution that makes both sides of each pair equal, or why there is none.
 ///
-/// The last pair is taken apart first, and of two holes that have to be equal the one of the
-/// greater number is bound. Bindings refer to parts of the pairs, and nothing of the pairs is copied
-/// before the end. Time is about the size of the pairs with the answer put in, and memory that of
-/// the answer and of the pairs that are pending. An answer can be exponentially larger than the
-/// pairs, as for `?1 = f ?2 ?2`, `?2 = f ?3 ?3` and so on. A chain of holes bound to holes is
-/// followed link by link. The stack does not grow with the pairs or the answer; dropping a tree
-/// takes stack by its depth.
+/// The last pair is taken apart first. Of two holes that have to be equal, the one is bound that
+/// ends the shorter chains of holes bound to holes, or where these are as long, the one of the
+/// greater number. So a look-up follows about log2 n links at most, for n holes.
+///
+/// Bindings refer to parts of the pairs, and nothing of the pairs is copied before the end. Time is
+/// about the size of the pairs with the answer put in, times the links of a look-up. Memory is that
+/// of the answer and of the pairs that are pending. An answer can be exponentially larger than the
+/// pairs, as for `?1 = f ?2 ?2`, `?2 = f ?3 ?3` and so on.
+///
+/// The stack does not grow with the pairs or the answer, but for `Clash`, which copies its two
+/// trees by recursion on their depth, as dropping a tree is: 201 levels, which readers give at the
+/// most, are safe.
 pub fn unify(alloc: Global, pairs: &Vec<(Tree, Tree)>) -> Result<Subst, UnifyErr>
     ensures equal { IfOk result (λ s. MakesEqual (tree_at s) pairs.now.items) }
     ensures general { IfOk result (λ s. IsMostGeneral s pairs.now.items) }

@@ -5,15 +5,12 @@ ghost use Rattle.gft_unify.specs.Work.{pairs_of, FindsBinding, IsMadeOfParts, Is
 
 use crate::compare::{Comparison, compare};
 use crate::error::UnifyErr;
-use crate::store::Store;
+use crate::store::{Binding, Store};
 use gft_core::{NoMemory, Tree};
 use std::alloc::Global;
 
 /// Pairs whose sides have to become equal; the last is taken first.
 pub type Work<'a> = Vec<(&'a Tree, &'a Tree)>;
-
-/// A hole with the tree that it has to equal.
-pub type Binding<'a> = (u32, &'a Tree);
 
 /// Adds each tree on the left with its partner on the right.
 pub fn push_zipped<'a>(
@@ -48,8 +45,10 @@ pub fn next_binding<'a>(
     work: &mut Work<'a>,
 ) -> Result<Option<Binding<'a>>, UnifyErr>
     requires { IsAcyclic store.now }
-    ensures found { FindsBinding store.now (pairs_of work.old.items) (pairs_of work.new.items) result }
-    ensures parts { IsMadeOfParts store.now (pairs_of work.old.items) (pairs_of work.new.items) result }
+    ensures found {
+        FindsBinding store.now (pairs_of work.old.items) (pairs_of work.new.items) result }
+    ensures parts {
+        IsMadeOfParts store.now (pairs_of work.old.items) (pairs_of work.new.items) result }
 {
     'pairs: while let Some((left, right)) = work.pop() {
         let left = store.walk(left);
@@ -57,6 +56,9 @@ pub fn next_binding<'a>(
         match compare(left, right) {
             Comparison::Same => {}
             Comparison::Bind(hole, tree) => return Ok(Some((hole, tree))),
+            Comparison::Join(hole, other) => {
+                return Ok(Some(store.direct(left, hole, right, other)));
+            }
             Comparison::Descend(lefts, rights) => push_zipped(work, lefts, rights)?,
             Comparison::Clash => return Err(clash(alloc, left, right)),
         }

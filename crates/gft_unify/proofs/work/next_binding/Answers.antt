@@ -46,6 +46,21 @@ returns-in-Bind-clause-parts c pairs bound paired =
     let two = parts-bind pairs _ _ _ _ c.in-Bind.ensures.0 all.1 all.2 in
     (all.0, two.0, two.1)
 
+pub returns-in-Join-clause-found : goal.returns-in-Join-clause-found
+returns-in-Join-clause-found c =
+    let d = (goal.at.returns-in-Join-clause-found c).After-compare in let split = c.direct.ensures.0 in (
+      amounts-bind _ _ _ _ _ _ _ _ (popped d) c.walk-left.ensures.same c.walk-right.ensures.same c.pairs.invariant.amounts _ _ split,
+      c.direct.ensures.1,
+      split-loose _ _ _ c.walk-left.ensures.end c.walk-right.ensures.end _ _ split,
+      split-end _ _ _ c.walk-left.ensures.end c.walk-right.ensures.end _ _ split,
+    )
+
+pub returns-in-Join-clause-parts : goal.returns-in-Join-clause-parts
+returns-in-Join-clause-parts c pairs bound paired =
+    let all = kept (goal.at.returns-in-Join-clause-parts c).After-compare pairs bound paired in
+    let two = parts-bind pairs _ _ _ _ c.direct.ensures.0 all.1 all.2 in
+    (all.0, two.0, two.1)
+
 pub pairs-smaller : goal.pairs-smaller
 pairs-smaller c =
     let s = solved c.args.store.now in

@@ -1,15 +1,16 @@
 use Rattle.std.proofs.Common.{ap, sym, subst, ◌∙◌, ◌<◌}
 use Rattle.gft_unify.specs.Instances.{inst}
-use Rattle.gft_unify.specs.Bindings.{link_height}
+use Rattle.gft_unify.specs.Bindings.{links_left}
 use Rattle.gft_unify.proofs.Equations.{inst-Hole}
 use Rattle.gft_unify.proofs.BindingLemmas.{Respects-lookup}
-use Rattle.gft_unify.proofs.StoreLemmas.{link_height-lt}
+use Rattle.gft_unify.proofs.StoreLemmas.{links_left-lt}
 use Rattle.gft_unify.proofs.WorkLemmas.{bound-part}
 use Rattle.gft_unify.proofs.store.Store.walk.Goals as goal
 
 pub chain-smaller : goal.chain-smaller
 chain-smaller c =
-    subst (λ t. link_height c.in-Some.bound.now < link_height t) (sym c.in-Hole.is) (link_height-lt c.in-Hole.hole c.in-Some.bound.now c.in-Some.ensures.below)
+    let bs = c.args.self.now in
+    subst (λ t. links_left bs c.in-Some.bound.now < links_left bs t) (sym c.in-Hole.is) (links_left-lt bs c.in-Hole.hole c.in-Some.bound.now c.in-Some.ensures.later)
 
 pub chain-preserved : goal.chain-preserved
 chain-preserved c = record {

@@ -2,7 +2,7 @@ use Rattle.std.proofs.Common.{◌≡◌, ℕ}
 use Rattle.gft_core.specs.declared.tree.Tree.{Tree}
 use Rattle.gft_unify.specs.Instances.{inst}
 use Rattle.gft_unify.specs.Parts.{IsAmongParts}
-use Rattle.gft_unify.specs.Bindings.{Respects, link_height}
+use Rattle.gft_unify.specs.Bindings.{Respects, links_left}
 use Rattle.gft_unify.proofs.store.Store.walk.Given as goal
 
 -- the tree stands for the first one, and is a part where that is
@@ -13,4 +13,4 @@ invariant-chain l = record {
 }
 
 abbrev pub decreases-chain : goal.decreases-chain
-decreases-chain l = link_height l.tree
+decreases-chain l = links_left l.self l.tree
