@@ -1,31 +1,18 @@
 -- The bytes of names and numbers.
-use Rattle.std.proofs.Common.{◌≡◌, ◌≢◌, ℕ, zero, suc, ◌+◌, ◌-◌, ◌^◌, ◌≤◌, ◌<◌, ◌⊎◌, inl, inr, Bool, true, false, ◌||◌, ◌==◌, if◌then◌else◌, List, [], ◌∷◌, ◌++◌, length, map, take, drop, get_or, ap, sym, ◌∙◌, subst, refl, arith, append_assoc, append-nil, ⊎_elim, length-drop}
+use Rattle.std.proofs.Common.{◌≡◌, ◌≢◌, ℕ, suc, ◌-◌, ◌^◌, ◌≤◌, ◌<◌, inl, inr, true, ◌||◌, ◌==◌, List, [], ◌∷◌, ◌++◌, length, ap, sym, ◌∙◌, subst, refl, arith, ⊎_elim}
 use Rattle.std.specs.Prelude.{encode_utf8, encode_utf8_all}
 use Rattle.std.specs.Char.{is_ascii_digit, is_ascii_alphabetic, is_ascii_alphanumeric}
 use Rattle.std.specs.Int.{is_in_range}
 use Rattle.std.specs.Fmt.{decimal}
 use Rattle.std.specs.List.{list_all}
 use Rattle.std.specs.Str.{chars, IsUtf8}
-use Rattle.std.specs.declared.cmp.Ordering.{Ordering}
-use Rattle.std.specs.declared.cmp.Ordering.TheVariants.{Less, Equal, Greater}
-use Rattle.std.specs.Ordering.{nat_cmp, ordering_then, ordering_reverse, is_ne}
-use Rattle.std.proofs.lemmas.Bool.{and_parts, leb-true, cases_lt, or_cases, or_left, or_right, eqb-true, false≢true, ne_eqb, eq-eqb, lt-ltb, le-ltb, cases_order}
+use Rattle.std.proofs.lemmas.Bool.{and_parts, leb-true, cases_lt, or_cases, or_left, or_right, eqb-true, false≢true}
 use Rattle.std.proofs.lemmas.Str.{encode_ascii, encodes-chars, length-encode, len_utf8_bounds}
 use Rattle.unicode_ident.proofs.IdentLemmas.{is_xid_start-ascii, is_xid_continue-ascii}
 use Rattle.gft_core.specs.Names.{begins_name, continues_name, spells_name, IsName}
-use Rattle.gft_core.specs.declared.tree.Tree.{Tree}
-use Rattle.gft_core.specs.declared.tree.Tree.TheVariants.{outs-App, outs-Int, outs-Str, outs-Hole}
-use Rattle.gft_core.specs.declared.tree.Tree.TheVariants as tree
-use Rattle.gft_tree.specs.declared.order.After.{After}
-use Rattle.gft_tree.specs.declared.order.After.TheVariants.{End, Close, Quote}
-use Rattle.gft_tree.specs.declared.sort.Sort.{Sort}
-use Rattle.gft_tree.specs.declared.sort.Sort.TheVariants.{Word, Parenthesis, Digit, Mark, Letter}
-use Rattle.gft_tree.specs.Order.{text_cmp, Follows, Orders, bytes_cmp, shown, sort_at, sort_of, rank_of, IsOfSort, Leads, after_of, behind, ended}
-use Rattle.gft_tree.specs.Trees.{Printed, printed, printed_step, as_argument, as_arguments, quoted}
 use Rattle.gft_tree.proofs.DigitLemmas.{writes}
 use Rattle.gft_tree.proofs.EscapeLemmas.{AllHigh, encode_high}
-use Rattle.gft_tree.proofs.LayerLemmas.{fold-App, fold-Int, fold-Str, fold-Hole}
-use Rattle.gft_tree.proofs.OrderLemmas.{IsPlainByte, AllPlain, plain_orders, quoted_orders, lt_less, gt_greater}
+use Rattle.gft_tree.proofs.OrderLemmas.{IsPlainByte, AllPlain}
 
 plain_app : (xs ys : List ℕ) → AllPlain xs → AllPlain ys → AllPlain (xs ++ ys)
 plain_app [] ys h k = k

@@ -43,7 +43,8 @@ closed (level ∷ outer) (Some t) at = Ok (reader_at outer (Between (with_atom l
 
 -- at an opening parenthesis
 abbrev pub opened : List Level → Level → ℕ → Result Reader TreeErr
-opened outer level at = if nat_lt (length outer) 200 then Ok (reader_at (level ∷ outer) (Between (Begun Empty))) else Err (TooDeep at)
+opened outer level at =
+    if nat_lt (length outer) 200 then Ok (reader_at (level ∷ outer) (Between (Begun Empty))) else Err (TooDeep at)
 
 -- between two tokens, where an atom may come
 abbrev pub step_begun : List Level → Level → ℕ → ℕ → Result Reader TreeErr
@@ -88,11 +89,13 @@ with_digit (Some n) d = if (nat_lt 0 n && nat_lt (n * 10 + d) (2 ^ 128)) then So
 abbrev pub number_ended : Level → Bool → ℕ → Option ℕ → Result Gap TreeErr
 number_ended level hole start None = Err (BadLiteral start)
 number_ended level false start (Some n) = Ok (with_atom level (tree.Int n))
-number_ended level true start (Some n) = if (nat_lt 0 n && nat_lt n (2 ^ 32)) then Ok (with_atom level (tree.Hole n)) else Err (BadLiteral start)
+number_ended level true start (Some n) =
+    if (nat_lt 0 n && nat_lt n (2 ^ 32)) then Ok (with_atom level (tree.Hole n)) else Err (BadLiteral start)
 
 -- a string that ends
 abbrev pub string_ended : Level → ℕ → List ℕ → Result Gap TreeErr
-string_ended level start w = if is_word (encode_utf8_all w) then Ok (with_atom level (tree.Str (encode_utf8_all w))) else Err (BadLiteral start)
+string_ended level start w =
+    if is_word (encode_utf8_all w) then Ok (with_atom level (tree.Str (encode_utf8_all w))) else Err (BadLiteral start)
 
 -- on with what ended
 abbrev pub on_ended : Result Gap TreeErr → (Gap → Result Reader TreeErr) → Result Reader TreeErr
@@ -147,7 +150,8 @@ abbrev pub finished_at : List Level → Here → ℕ → Result Tree TreeErr
 finished_at outer (Between gap) at = finished_gap outer (tree_of gap) at
 finished_at outer (Asked level) at = Err (Syntax at)
 finished_at outer (InWord level start w) at = on_gap (word_ended level start w) (λ gap. finished_gap outer (tree_of gap) at)
-finished_at outer (InNumber level hole start value) at = on_gap (number_ended level hole start value) (λ gap. finished_gap outer (tree_of gap) at)
+finished_at outer (InNumber level hole start value) at =
+    on_gap (number_ended level hole start value) (λ gap. finished_gap outer (tree_of gap) at)
 finished_at outer (InQuotes level start w) at = Err (Syntax at)
 finished_at outer (InEscape level start w) at = Err (Syntax at)
 

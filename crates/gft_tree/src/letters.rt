@@ -22,6 +22,7 @@ impl Model for Letters {
 }
 
 impl Letters {
+    /// No characters. It takes no memory.
     pub fn new(alloc: Global) -> Letters
         ensures { result ≡ [] }
     {

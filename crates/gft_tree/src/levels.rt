@@ -26,6 +26,7 @@ impl Model for Levels {
 }
 
 impl Levels {
+    /// No level. It takes no memory.
     pub fn new(alloc: Global) -> Levels
         ensures { result ≡ [] }
     {
@@ -34,12 +35,14 @@ impl Levels {
         }
     }
 
+    /// How many levels wait. It takes no memory and does not walk through them.
     pub fn len(&self) -> usize
         ensures { result ≡ length self.now }
     {
         self.levels.len()
     }
 
+    /// The levels with one more, which is the innermost. Where memory ran out they are dropped.
     pub fn push(self, level: Level) -> Result<Levels, NoMemory>
         ensures { IfOk result (λ levels. levels ≡ level ∷ self) }
     {
@@ -48,6 +51,7 @@ impl Levels {
         Ok(Levels { levels })
     }
 
+    /// The innermost level and those round it, None where none waits. It takes no memory.
     pub fn pop(self) -> Option<(Level, Levels)>
         ensures { MatchOption result (self ≡ []) (λ found. self ≡ found.0 ∷ found.1) }
     {

@@ -325,6 +325,7 @@ fn finished_gap(outer: Levels, gap: Gap, at: u32) -> Result<Tree, TreeErr>
 }
 
 impl Reader {
+    /// A reader before the first character. It takes no memory.
     pub fn new(alloc: Global) -> Reader
         ensures { result ≡ spec.start }
     {

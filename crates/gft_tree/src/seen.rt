@@ -22,6 +22,7 @@ impl Model for Seen {
 }
 
 impl Seen {
+    /// No numbers. It takes no memory.
     pub fn new(alloc: Global) -> Seen
         ensures { result ≡ [] }
     {

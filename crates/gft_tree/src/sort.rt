@@ -31,6 +31,7 @@ impl Sort {
         }
     }
 
+    /// How texts that begin with these sorts compare; texts of one sort are equal so far.
     pub fn order(self, other: Sort) -> Ordering
         ensures { result ≡ nat_cmp (rank_of self) (rank_of other) }
     {
