@@ -43,10 +43,12 @@ module _ (A : Type 0) (step : LinTerm-F.LinTerm-F A → A) where
   pub fold-Concat : (a : LinTerm) (b : LinTerm) → fold (Concat a b) ≡ step (LinTerm-F.Concat (fold a) (fold b))
   fold-Concat a b = at _ (rolls-Concat a b)
 
-  pub fold-Glue : (a : LinTerm) (b : LinTerm) (place : Place) → fold (Glue a b place) ≡ step (LinTerm-F.Glue (fold a) (fold b) place)
+  pub fold-Glue : (a : LinTerm) (b : LinTerm) (place : Place)
+      → fold (Glue a b place) ≡ step (LinTerm-F.Glue (fold a) (fold b) place)
   fold-Glue a b place = at _ (rolls-Glue a b place)
 
-  pub fold-Predef : (p : Predef') (n : LinTerm) (s : LinTerm) (place : Place) → fold (Predef p n s place) ≡ step (LinTerm-F.Predef p (fold n) (fold s) place)
+  pub fold-Predef : (p : Predef') (n : LinTerm) (s : LinTerm) (place : Place)
+      → fold (Predef p n s place) ≡ step (LinTerm-F.Predef p (fold n) (fold s) place)
   fold-Predef p n s place = at _ (rolls-Predef p n s place)
 
   pub fold-Record : (fs : List (List ℕ × LinTerm)) → fold (Record fs) ≡ step (LinTerm-F.Record (map (on_second fold) fs))
@@ -65,7 +67,8 @@ module _ (A : Type 0) (step : LinTerm-F.LinTerm-F A → A) where
   pub fold-Select : (a : LinTerm) (b : LinTerm) → fold (Select a b) ≡ step (LinTerm-F.Select (fold a) (fold b))
   fold-Select a b = at _ (rolls-Select a b)
 
-  pub fold-Case : (e : LinTerm) (bs : Branches LinTerm) (place : Place) → fold (Case e bs place) ≡ step (LinTerm-F.Case (fold e) (on_branches fold bs) place)
+  pub fold-Case : (e : LinTerm) (bs : Branches LinTerm) (place : Place)
+      → fold (Case e bs place) ≡ step (LinTerm-F.Case (fold e) (on_branches fold bs) place)
   fold-Case e (Matched bs) place = at _ (rolls-Case e (Matched bs) place)
   fold-Case e (Listed Q ts) place = at _ (rolls-Case e (Listed Q ts) place)
 

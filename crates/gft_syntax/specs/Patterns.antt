@@ -28,7 +28,8 @@ module _ (A : Type 0) (step : Pattern-F.Pattern-F A → A) where
   pub fold-Seq : (p : Pattern) (q : Pattern) (place : Place) → fold (Seq p q place) ≡ step (Pattern-F.Seq (fold p) (fold q) place)
   fold-Seq p q place = at _ (rolls-Seq p q place)
 
-  pub fold-Con : (m : Option (List ℕ)) (r : Reference) (ps : List Pattern) (place : Place) → fold (Con m r ps place) ≡ step (Pattern-F.Con m r (map fold ps) place)
+  pub fold-Con : (m : Option (List ℕ)) (r : Reference) (ps : List Pattern) (place : Place)
+      → fold (Con m r ps place) ≡ step (Pattern-F.Con m r (map fold ps) place)
   fold-Con m r ps place = at _ (rolls-Con m r ps place)
 
   pub fold-Star : (p : Pattern) (place : Place) → fold (Star p place) ≡ step (Pattern-F.Star (fold p) place)
@@ -52,7 +53,8 @@ module _ (A : Type 0) (step : Pattern-F.Pattern-F A → A) where
   pub fold-Num : (n : ℕ) (place : Place) → fold (Num n place) ≡ step (Pattern-F.Num n place)
   fold-Num n place = at _ (rolls-Num n place)
 
-  pub fold-Fields : (fs : List (PatternField Pattern)) (place : Place) → fold (Fields fs place) ≡ step (Pattern-F.Fields (map (on_field fold) fs) place)
+  pub fold-Fields : (fs : List (PatternField Pattern)) (place : Place)
+      → fold (Fields fs place) ≡ step (Pattern-F.Fields (map (on_field fold) fs) place)
   fold-Fields fs place = at _ (rolls-Fields fs place)
 
   pub fold-Tuple : (ps : List Pattern) (place : Place) → fold (Tuple ps place) ≡ step (Pattern-F.Tuple (map fold ps) place)

@@ -44,16 +44,20 @@ module _ (A : Type 0) (step : Term-F.Term-F A → A) where
   pub fold-Fun : (xs : List Bind) (e : Term) (place : Place) → fold (Fun xs e place) ≡ step (Term-F.Fun xs (fold e) place)
   fold-Fun xs e place = at _ (rolls-Fun xs e place)
 
-  pub fold-TabFun : (xs : List Bind) (e : Term) (place : Place) → fold (TabFun xs e place) ≡ step (Term-F.TabFun xs (fold e) place)
+  pub fold-TabFun : (xs : List Bind) (e : Term) (place : Place)
+      → fold (TabFun xs e place) ≡ step (Term-F.TabFun xs (fold e) place)
   fold-TabFun xs e place = at _ (rolls-TabFun xs e place)
 
-  pub fold-Arrow : (xs : List Bind) (a : Term) (b : Term) (place : Place) → fold (Arrow xs a b place) ≡ step (Term-F.Arrow xs (fold a) (fold b) place)
+  pub fold-Arrow : (xs : List Bind) (a : Term) (b : Term) (place : Place)
+      → fold (Arrow xs a b place) ≡ step (Term-F.Arrow xs (fold a) (fold b) place)
   fold-Arrow xs a b place = at _ (rolls-Arrow xs a b place)
 
-  pub fold-TabType : (a : Term) (b : Term) (place : Place) → fold (TabType a b place) ≡ step (Term-F.TabType (fold a) (fold b) place)
+  pub fold-TabType : (a : Term) (b : Term) (place : Place)
+      → fold (TabType a b place) ≡ step (Term-F.TabType (fold a) (fold b) place)
   fold-TabType a b place = at _ (rolls-TabType a b place)
 
-  pub fold-Let : (ls : List (Local Term)) (e : Term) (place : Place) → fold (Let ls e place) ≡ step (Term-F.Let (map (on_local fold) ls) (fold e) place)
+  pub fold-Let : (ls : List (Local Term)) (e : Term) (place : Place)
+      → fold (Let ls e place) ≡ step (Term-F.Let (map (on_local fold) ls) (fold e) place)
   fold-Let ls e place =
       at _ (rolls-Let ls e place) ∙ ap (λ ks. step (Term-F.Let ks (fold e) place)) (map_same (local_same fold) ls)
 
@@ -72,17 +76,20 @@ module _ (A : Type 0) (step : Term-F.Term-F A → A) where
   pub fold-Pair : (a : Term) (b : Term) (place : Place) → fold (Pair a b place) ≡ step (Term-F.Pair (fold a) (fold b) place)
   fold-Pair a b place = at _ (rolls-Pair a b place)
 
-  pub fold-TableOf : (p : Option Term) (cs : List (Case Term)) (place : Place) → fold (TableOf p cs place) ≡ step (Term-F.TableOf (map_option fold p) (map (on_case fold) cs) place)
+  pub fold-TableOf : (p : Option Term) (cs : List (Case Term)) (place : Place)
+      → fold (TableOf p cs place) ≡ step (Term-F.TableOf (map_option fold p) (map (on_case fold) cs) place)
   fold-TableOf None cs place = at _ (rolls-TableOf None cs place)
   fold-TableOf (Some p) cs place = at _ (rolls-TableOf (Some p) cs place)
 
-  pub fold-TableList : (p : Term) (ts : List Term) (place : Place) → fold (TableList p ts place) ≡ step (Term-F.TableList (fold p) (map fold ts) place)
+  pub fold-TableList : (p : Term) (ts : List Term) (place : Place)
+      → fold (TableList p ts place) ≡ step (Term-F.TableList (fold p) (map fold ts) place)
   fold-TableList p ts place = at _ (rolls-TableList p ts place)
 
   pub fold-App : (f : Term) (a : Term) (place : Place) → fold (App f a place) ≡ step (Term-F.App (fold f) (fold a) place)
   fold-App f a place = at _ (rolls-App f a place)
 
-  pub fold-CaseOf : (e : Term) (cs : List (Case Term)) (place : Place) → fold (CaseOf e cs place) ≡ step (Term-F.CaseOf (fold e) (map (on_case fold) cs) place)
+  pub fold-CaseOf : (e : Term) (cs : List (Case Term)) (place : Place)
+      → fold (CaseOf e cs place) ≡ step (Term-F.CaseOf (fold e) (map (on_case fold) cs) place)
   fold-CaseOf e cs place = at _ (rolls-CaseOf e cs place)
 
   pub fold-Variants : (ts : List Term) (place : Place) → fold (Variants ts place) ≡ step (Term-F.Variants (map fold ts) place)
@@ -109,7 +116,8 @@ module _ (A : Type 0) (step : Term-F.Term-F A → A) where
   pub fold-Sort : (s : Sort') (place : Place) → fold (Sort s place) ≡ step (Term-F.Sort s place)
   fold-Sort s place = at _ (rolls-Sort s place)
 
-  pub fold-Fields : (ls : List (Local Term)) (place : Place) → fold (Fields ls place) ≡ step (Term-F.Fields (map (on_local fold) ls) place)
+  pub fold-Fields : (ls : List (Local Term)) (place : Place)
+      → fold (Fields ls place) ≡ step (Term-F.Fields (map (on_local fold) ls) place)
   fold-Fields ls place =
       at _ (rolls-Fields ls place) ∙ ap (λ ks. step (Term-F.Fields ks place)) (map_same (local_same fold) ls)
 

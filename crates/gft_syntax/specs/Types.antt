@@ -23,7 +23,8 @@ module _ (A : Type 0) (step : CType-F.CType-F A → A) where
   pub fold-Str : fold Str ≡ step CType-F.Str
   fold-Str = at _ rolls-Str
 
-  pub fold-Param : (w : Whole) (cs : List (Whole × List CType)) → fold (Param w cs) ≡ step (CType-F.Param w (map (on_second (map fold)) cs))
+  pub fold-Param : (w : Whole) (cs : List (Whole × List CType))
+      → fold (Param w cs) ≡ step (CType-F.Param w (map (on_second (map fold)) cs))
   fold-Param w cs = at _ (rolls-Param w cs)
 
   pub fold-Ints : (n : ℕ) → fold (Ints n) ≡ step (CType-F.Ints n)
