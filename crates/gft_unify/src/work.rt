@@ -45,10 +45,8 @@ pub fn next_binding<'a>(
     work: &mut Work<'a>,
 ) -> Result<Option<Binding<'a>>, UnifyErr>
     requires { IsAcyclic store.now }
-    ensures found {
-        FindsBinding store.now (pairs_of work.old.items) (pairs_of work.new.items) result }
-    ensures parts {
-        IsMadeOfParts store.now (pairs_of work.old.items) (pairs_of work.new.items) result }
+    ensures found { FindsBinding store.now (pairs_of work.old.items) (pairs_of work.new.items) result }
+    ensures parts { IsMadeOfParts store.now (pairs_of work.old.items) (pairs_of work.new.items) result }
 {
     'pairs: while let Some((left, right)) = work.pop() {
         let left = store.walk(left);

@@ -1,9 +1,10 @@
-use Rattle.std.proofs.Common.{◌≡◌, List, [], ◌∷◌, ◌++◌, ap, sym, subst, ◌∙◌, ◌<◌, arith}
+use Rattle.std.proofs.Common.{◌≡◌, ℕ, List, [], ◌∷◌, ◌++◌, Some, Ok, Bor, ap, sym, subst, ◌∙◌, ◌<◌, arith}
 use Rattle.gft_core.specs.declared.tree.Tree.{Tree}
 use Rattle.gft_unify.specs.Parts.{IsPart, ArePairedParts, AreBoundParts}
 use Rattle.gft_unify.specs.Bindings.{solved}
 use Rattle.gft_unify.specs.Instances.{total}
-use Rattle.gft_unify.specs.Work.{pairs_of, pair_size, AmountsTo}
+use Rattle.gft_unify.specs.Comparison.{MayBind}
+use Rattle.gft_unify.specs.Work.{pairs_of, pair_size, AmountsTo, FindsBinding, IsMadeOfParts}
 use Rattle.gft_unify.proofs.WorkLemmas.{empty, refusal_found, refusal_parts, pairs_of-push, amounts-same, amounts-bind, amounts-descend, amounts-clash, split-loose, split-end, smaller-same, smaller-descend, paired-append, paired-push, parts-descend, parts-bind}
 use Rattle.gft_unify.proofs.work.next_binding.Goals as goal
 use Rattle.gft_unify.proofs.work.next_binding.Goals.{After-compare}
@@ -16,6 +17,22 @@ kept : (c : After-compare) (pairs : List (Tree × Tree)) → AreBoundParts pairs
 kept c pairs bound paired =
     let rest = paired-push pairs _ _ _ (subst (ArePairedParts pairs) (popped c) (c.pairs.invariant.parts pairs bound paired)) in
     (rest.0, c.walk-left.ensures.part pairs bound rest.1, c.walk-right.ensures.part pairs bound rest.2)
+
+-- a hole that may be bound, and what it may be bound to
+module _ (c : After-compare) (k : ℕ) (t : Bor Tree) (may : MayBind c.walk-left.result.now c.walk-right.result.now k t.now) where
+  bind_found : FindsBinding c.args.store.now (pairs_of c.args.work.now.items) (pairs_of c.pop.new.self.items) (Ok (Some (k, t)))
+  bind_found = (
+    amounts-bind _ _ _ _ _ _ _ _ (popped c) c.walk-left.ensures.same c.walk-right.ensures.same c.pairs.invariant.amounts _ _ may.0,
+    may.1,
+    split-loose _ _ _ c.walk-left.ensures.end c.walk-right.ensures.end _ _ may.0,
+    split-end _ _ _ c.walk-left.ensures.end c.walk-right.ensures.end _ _ may.0,
+  )
+
+  bind_parts : IsMadeOfParts c.args.store.now (pairs_of c.args.work.now.items) (pairs_of c.pop.new.self.items) (Ok (Some (k, t)))
+  bind_parts pairs bound paired =
+      let all = kept c pairs bound paired in
+      let two = parts-bind pairs _ _ _ _ may.0 all.1 all.2 in
+      (all.0, two.0, two.1)
 
 pub pairs-smaller-in-Same : goal.pairs-smaller-in-Same
 pairs-smaller-in-Same c =
@@ -32,34 +49,16 @@ pairs-preserved-in-Same c =
     }
 
 pub returns-in-Bind-clause-found : goal.returns-in-Bind-clause-found
-returns-in-Bind-clause-found c =
-    let d = (goal.at.returns-in-Bind-clause-found c).After-compare in let split = c.in-Bind.ensures.0 in (
-      amounts-bind _ _ _ _ _ _ _ _ (popped d) c.walk-left.ensures.same c.walk-right.ensures.same c.pairs.invariant.amounts _ _ split,
-      c.in-Bind.ensures.1,
-      split-loose _ _ _ c.walk-left.ensures.end c.walk-right.ensures.end _ _ split,
-      split-end _ _ _ c.walk-left.ensures.end c.walk-right.ensures.end _ _ split,
-    )
+returns-in-Bind-clause-found c = bind_found (goal.at.returns-in-Bind-clause-found c).After-compare c.in-Bind.hole c.in-Bind.tree c.in-Bind.ensures
 
 pub returns-in-Bind-clause-parts : goal.returns-in-Bind-clause-parts
-returns-in-Bind-clause-parts c pairs bound paired =
-    let all = kept (goal.at.returns-in-Bind-clause-parts c).After-compare pairs bound paired in
-    let two = parts-bind pairs _ _ _ _ c.in-Bind.ensures.0 all.1 all.2 in
-    (all.0, two.0, two.1)
+returns-in-Bind-clause-parts c = bind_parts (goal.at.returns-in-Bind-clause-parts c).After-compare c.in-Bind.hole c.in-Bind.tree c.in-Bind.ensures
 
 pub returns-in-Join-clause-found : goal.returns-in-Join-clause-found
-returns-in-Join-clause-found c =
-    let d = (goal.at.returns-in-Join-clause-found c).After-compare in let split = c.direct.ensures.0 in (
-      amounts-bind _ _ _ _ _ _ _ _ (popped d) c.walk-left.ensures.same c.walk-right.ensures.same c.pairs.invariant.amounts _ _ split,
-      c.direct.ensures.1,
-      split-loose _ _ _ c.walk-left.ensures.end c.walk-right.ensures.end _ _ split,
-      split-end _ _ _ c.walk-left.ensures.end c.walk-right.ensures.end _ _ split,
-    )
+returns-in-Join-clause-found c = bind_found (goal.at.returns-in-Join-clause-found c).After-compare c.direct.result.0 c.direct.result.1 c.direct.ensures
 
 pub returns-in-Join-clause-parts : goal.returns-in-Join-clause-parts
-returns-in-Join-clause-parts c pairs bound paired =
-    let all = kept (goal.at.returns-in-Join-clause-parts c).After-compare pairs bound paired in
-    let two = parts-bind pairs _ _ _ _ c.direct.ensures.0 all.1 all.2 in
-    (all.0, two.0, two.1)
+returns-in-Join-clause-parts c = bind_parts (goal.at.returns-in-Join-clause-parts c).After-compare c.direct.result.0 c.direct.result.1 c.direct.ensures
 
 pub pairs-smaller : goal.pairs-smaller
 pairs-smaller c =
