@@ -12,6 +12,8 @@ use Rattle.gft_syntax.specs.declared.flat.Flat.{Flat}
 use Rattle.gft_model.specs.Commands.{Verb, Import, Empty, Quit, AbstractInfo, WritePortable, Argument, Nothing, Name, Command, refusal, InTurn, Read, Pipe, Refused}
 use Rattle.std.specs.FinMap.{insert}
 use Rattle.gft_model.specs.AbstractInfo.{judgement_lines}
+use Rattle.gft_pmcfg.specs.declared.signature.Abstract.{Abstract}
+use Rattle.gft_model.specs.AnswerLaws.{AreDetermined}
 use Rattle.gft_model.specs.Commands as argument
 use Rattle.gft_model.specs.PortableFile.{file_bytes}
 use Rattle.gft_model.specs.Replies.{Item, a_text, Makes, parsed, completed, too_long, linearized, unsolved, passed, Parses, Completes, Runs, done, next, refused, AreTexts, languages_for, item_of, line_of}
@@ -107,17 +109,6 @@ lacks_first_once (later n d) (later m e) = lacks_first_once d e
 
 -- IMPORTS AND COMPILED GRAMMARS
 
--- imports and compilation are determined: an import is not both accepted and refused, it has at most one refusal, each
--- of its files gives at most one part, and each language compiles to at most one concrete syntax
-pub record AreDetermined (S : Sources) : Type 0 where
-  pub apart : (files : Files) (names : List (List ℕ)) (r : Refusal) (loaded : List (List ℕ)) → S.accepts files names
-      → ¬ S.refuses files names r loaded
-  pub one_refusal : (files : Files) (names : List (List ℕ)) (r s : Refusal) (loaded others : List (List ℕ))
-      → S.refuses files names r loaded → S.refuses files names s others → (r ≡ s) × (loaded ≡ others)
-  pub one_part : (files : Files) (names : List (List ℕ)) (name : List ℕ) (p q : Loaded) → Gives S files names name p
-      → Gives S files names name q → p ≡ q
-  pub one_compiled : (flat : Flat) (name : List ℕ) (c d : Concrete) → S.compiles flat name c → S.compiles flat name d → c ≡ d
-
 module _ (S : Sources) (determined : AreDetermined S) where
   imported_once : {files : Files} {names : List (List ℕ)} {p q : Loaded} → IsImported S files names p
       → IsImported S files names q
@@ -136,13 +127,13 @@ module _ (S : Sources) (determined : AreDetermined S) where
   joins_once (Joins.other n) (Joins.equal e) = absurd (n e)
   joins_once (Joins.other n) (Joins.other m) = refl
 
-  compiled_once : (l : List ℕ × Kept) (c d : Concrete) → IsCompiled S l c → IsCompiled S l d → c ≡ d
-  compiled_once l c d (IsCompiled.source e x) (IsCompiled.source f y) = determined.one_compiled _ _ c d x y
-  compiled_once l c d (IsCompiled.file e) (IsCompiled.file f) = refl
+  compiled_once : (a : Abstract) (l : List ℕ × Kept) (c d : Concrete) → IsCompiled S a l c → IsCompiled S a l d → c ≡ d
+  compiled_once a l c d (IsCompiled.source e x) (IsCompiled.source f y) = determined.one_compiled a _ _ c d x y
+  compiled_once a l c d (IsCompiled.file e) (IsCompiled.file f) = refl
 
   file_once : {state : State} {b c : List ℕ} → IsFileOf S state b → IsFileOf S state c → b ≡ c
   file_once (g, StandsFor.loaded {held} e x, b) (h, StandsFor.loaded f y, c) =
-      let concretes = zip_once compiled_once held.languages g.concretes h.concretes x y in
+      let concretes = zip_once (compiled_once held.abs) held.languages g.concretes h.concretes x y in
       sym b ∙ ap (λ a. file_bytes a g.concretes) (e ∙ sym f) ∙ ap (file_bytes h.abs) concretes ∙ c
 
   -- WHAT A PIPE DOES

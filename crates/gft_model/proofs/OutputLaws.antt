@@ -9,7 +9,8 @@ use Rattle.gft_model.specs.Commands.{Verb, Import, WritePortable, Read}
 use Rattle.gft_model.specs.Output.{is_plain, AreWords, none, a_file, only_files, an_out, an_out_is, a_count, a_count_is, Mode, session, make, workload, Asks, for_session, to_make, for_workload, Written, plain, before, IsPipeOf, pipe, bad_name, unbegun, LinesStep, end, quit, next, FilesStep, Output, workload_text, usage_line}
 use Rattle.gft_model.specs.Shell.{Held, Answer, PipeSteps, Steps}
 use Rattle.gft_model.specs.States.{Sources}
-use Rattle.gft_model.proofs.AnswerLaws.{AreDetermined, answer_once, pipe_once}
+use Rattle.gft_model.specs.AnswerLaws.{AreDetermined}
+use Rattle.gft_model.proofs.AnswerLaws.{answer_once, pipe_once}
 
 -- what the words of a program say
 record SameWords (outs counts files others numbers names : List (List ℕ)) : Type 0 where

@@ -21,14 +21,12 @@ use Rattle.gft_model.specs.PortableFile
 use Rattle.gft_model.specs.Refusals.{Moment, IsFirst, IsAccepted, placeless}
 use Rattle.gft_model.specs.States.{Loaded, Sources, of_source}
 use Rattle.gft_model.specs.TypeFaults.{BreaksTypes}
-use Rattle.gft_pmcfg.specs.declared.concrete.Concrete.{Concrete as Compiled}
 use Rattle.gft_pmcfg.specs.declared.grammar.Grammar.{Grammar}
 use Rattle.gft_pmcfg.specs.declared.signature.Abstract.{Abstract as AbstractSyntax}
 use Rattle.gft_rules.specs.declared.refusal.Refusal.{Refusal}
 use Rattle.gft_rules.specs.declared.rule.Rule.TheVariants as R
 use Rattle.gft_syntax.specs.declared.flat.Flat.{Flat}
 use Rattle.gft_syntax.specs.declared.flat.FlatJudgement.{FlatJudgement}
-use Rattle.gft_syntax.specs.declared.judgement.Judgement.{Judgement}
 use Rattle.gft_syntax.specs.declared.linear.Typed.{Typed}
 use Rattle.gft_syntax.specs.declared.module.Header.TheVariants.{Abstract, Resource, Instance, Concrete}
 use Rattle.gft_syntax.specs.declared.module.Header.{Header}
@@ -170,18 +168,12 @@ pub data GivesPart (files : Files) (names : List (List ℕ)) (file : List ℕ) :
       HasLanguage s.modules file lang flat → HasPart files s.modules file a →
       GivesPart files names file (record { abs = a; languages = (lang, of_source flat) ∷ [] })
 
--- what a language compiles to: by the abstract syntax of its grammar, whose name and start category do not matter
-abbrev pub CompilesTo : Flat → List ℕ → Compiled → Type 0
-CompilesTo flat lang c =
-    (a : AbstractSyntax) × (name : List ℕ) × (js : List Judgement) × IsAbstractPart flat.cats flat.funs (λ w. ⊥) name js a
-    × Compiles a flat lang c
-
--- the imports of sources that the answers of a session speak of
+-- the imports and the compilation of sources that the answers of a session speak of
 abbrev pub sources : Sources
 sources = record {
   accepts = λ files names. IsAccepted (BreaksImport files names);
   refuses = λ files names r loaded_files. IsFirst (BreaksImport files names) r × HasFiles files names loaded_files;
   loads = ComesTo;
   gives = GivesPart;
-  compiles = CompilesTo;
+  compiles = Compiles;
 }

@@ -62,8 +62,8 @@ pub record Sources : Type 1 where
   pub loads : Files → List (List ℕ) → List ℕ → Type 0
   -- what one of the named sources gives in it: its abstract part, and its language where it is a concrete module
   pub gives : Files → List (List ℕ) → List ℕ → Loaded → Type 0
-  -- the concrete syntax that a language of a resolved source compiles to
-  pub compiles : Flat → List ℕ → Concrete → Type 0
+  -- the concrete syntax that a language of a resolved source compiles to, over an abstract part
+  pub compiles : Abstract → Flat → List ℕ → Concrete → Type 0
 
 -- what a named file gives in an import
 pub data Gives (S : Sources) (files : Files) (names : List (List ℕ)) (name : List ℕ) : Loaded → Type 0 where
@@ -89,13 +89,13 @@ pub data Joins : State → Loaded → Loaded → Type 0 where
   other : {held new : Loaded} → held.abs ≢ new.abs → Joins (Some held) new new
 
 -- the compiled form of a language, of the same name
-pub data IsCompiled (S : Sources) : List ℕ × Kept → Concrete → Type 0 where
-  source : {name : List ℕ} {flat : Flat} {c : Concrete} → c.name ≡ name → S.compiles flat name c
-      → IsCompiled S (name, of_source flat) c
-  file : {name : List ℕ} {c : Concrete} → c.name ≡ name → IsCompiled S (name, of_file c) c
+pub data IsCompiled (S : Sources) (a : Abstract) : List ℕ × Kept → Concrete → Type 0 where
+  source : {name : List ℕ} {flat : Flat} {c : Concrete} → c.name ≡ name → S.compiles a flat name c
+      → IsCompiled S a (name, of_source flat) c
+  file : {name : List ℕ} {c : Concrete} → c.name ≡ name → IsCompiled S a (name, of_file c) c
 
 -- a session's compiled grammar, or none, stands for a state
 pub data StandsFor (S : Sources) : Option Grammar → State → Type 0 where
   empty : StandsFor S None None
-  loaded : {g : Grammar} {held : Loaded} → g.abs ≡ held.abs → AllZip (IsCompiled S) held.languages g.concretes
+  loaded : {g : Grammar} {held : Loaded} → g.abs ≡ held.abs → AllZip (IsCompiled S held.abs) held.languages g.concretes
       → StandsFor S (Some g) (Some held)

@@ -1,5 +1,5 @@
 //! Laws of command lines and answers. Each function does nothing; its clause is the law.
-ghost use Rattle.gft_model.specs.AnswerLaws.{LineIsRead, LineIsReadOnce, ParseAnswersOnce, CompleteAnswersOnce, TextsAreDetermined};
+ghost use Rattle.gft_model.specs.AnswerLaws.{LineIsRead, LineIsReadOnce, ParseAnswersOnce, CompleteAnswersOnce, TextsAreDetermined, SessionAnswersOnce, OutputIsDetermined};
 
 /// Every line is read, each of its pipes as commands or as a refusal.
 pub fn line_is_read()
@@ -24,4 +24,16 @@ pub fn complete_answers_once()
 /// The texts of a tree in a language, in their order, are determined.
 pub fn texts_are_determined()
     ensures { TextsAreDetermined }
+{}
+
+/// A session has at most one answer to a line in which no load or save fails, where imports and
+/// compilation are determined.
+pub fn session_answers_once()
+    ensures { SessionAnswersOnce }
+{}
+
+/// A run in which no load or save fails writes at most one output, where imports and compilation are
+/// determined.
+pub fn output_is_determined()
+    ensures { OutputIsDetermined }
 {}

@@ -1,0 +1,6 @@
+use Rattle.gft_model.proofs.OutputLaws.{output_once}
+use Rattle.gft_model.proofs.answers.output_is_determined.Goals as goal
+use Rattle.gft_model.specs.Import.{sources}
+
+pub returns : goal.returns
+returns c = λ determined. output_once sources determined

@@ -1,0 +1,6 @@
+use Rattle.gft_model.proofs.AnswerLaws.{answer_once}
+use Rattle.gft_model.proofs.answers.session_answers_once.Goals as goal
+use Rattle.gft_model.specs.Import.{sources}
+
+pub returns : goal.returns
+returns c = λ determined. answer_once sources determined
