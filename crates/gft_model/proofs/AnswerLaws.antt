@@ -8,7 +8,6 @@ use Rattle.std.specs.Str.{chars}
 use Rattle.gft_io.specs.Outside.{Files}
 use Rattle.gft_pmcfg.specs.declared.concrete.Concrete.{Concrete}
 use Rattle.gft_rules.specs.declared.refusal.Refusal.{Refusal}
-use Rattle.gft_syntax.specs.declared.flat.Flat.{Flat}
 use Rattle.gft_model.specs.Commands.{Verb, Import, Empty, Quit, AbstractInfo, WritePortable, Argument, Nothing, Name, Command, refusal, InTurn, Read, Pipe, Refused}
 use Rattle.std.specs.FinMap.{insert}
 use Rattle.gft_model.specs.AbstractInfo.{judgement_lines}
@@ -18,7 +17,7 @@ use Rattle.gft_model.specs.Commands as argument
 use Rattle.gft_model.specs.PortableFile.{file_bytes}
 use Rattle.gft_model.specs.Replies.{Item, a_text, Makes, parsed, completed, too_long, linearized, unsolved, passed, Parses, Completes, Runs, done, next, refused, AreTexts, languages_for, item_of, line_of}
 use Rattle.gft_model.specs.Shell.{Held, Answer, Lacks, no_grammar, no_language, no_such_language, no_such_category, LacksFirst, here, later, IsAlone, IsFileOf, Does, PipeSteps, AllSteps, Steps, IsAnswer, followed, replying, refusing, grammar_line, portable_limit, wrote_line}
-use Rattle.gft_model.specs.States.{Kept, Loaded, State, Sources, Gives, IsImported, Joins, IsCompiled, StandsFor, language_of, added}
+use Rattle.gft_model.specs.States.{Kept, Loaded, State, Sources, IsImported, Joins, IsCompiled, StandsFor, language_of, added}
 use Rattle.gft_model.proofs.CommandLaws.{in_turn_once, zip_once, line_once}
 use Rattle.gft_model.proofs.ReplyLaws.{parses_once, completes_once, texts_once}
 use Rattle.gft_model.proofs.UnsolvedLaws.{reason_once}
