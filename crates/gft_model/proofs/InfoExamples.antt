@@ -9,29 +9,33 @@ use Rattle.gft_pmcfg.specs.declared.signature.Fun.{Fun}
 use Rattle.gft_model.specs.AbstractInfo.{judgement_lines, type_text}
 use Rattle.gft_model.specs.Layers.{by_layers-App, by_layers-Hole}
 
-abbrev kind : AType
+abbrev pub kind : AType
 kind = record { cat = 5; args = [] }
 
 -- a category that is indexed by the first argument
-abbrev indexed : ℕ → AType
+abbrev pub indexed : ℕ → AType
 indexed cat = record { cat = cat; args = Hole 1 ∷ [] }
 
 -- `Do : (k : Kind) -> Action k -> Device k -> Cmd`
-abbrev do_fun : Fun
+abbrev pub do_fun : Fun
 do_fun = record {
   name = codes "Do";
   args = kind ∷ indexed 2 ∷ indexed 4 ∷ [];
   result = record { cat = 3; args = [] };
 }
 
-abbrev home : Abstract
+-- `fan : Kind`
+abbrev pub fan_fun : Fun
+fan_fun = record { name = codes "fan"; args = []; result = kind }
+
+abbrev pub home : Abstract
 home = record {
   name = codes "Home";
   start = 3;
   cats = record { name = codes "Int"; context = [] } ∷ record { name = codes "String"; context = [] }
       ∷ record { name = codes "Action"; context = kind ∷ [] } ∷ record { name = codes "Cmd"; context = [] }
       ∷ record { name = codes "Device"; context = kind ∷ [] } ∷ record { name = codes "Kind"; context = [] } ∷ [];
-  funs = do_fun ∷ [];
+  funs = do_fun ∷ fan_fun ∷ [];
 }
 
 -- an argument is named where a later type uses it

@@ -67,3 +67,4 @@ pub mod CompileRefusalExamples
 pub mod NameRefusalExamples
 pub mod TypeRefusalExamples
 pub mod RefusalOrder
+pub mod UnsolvedExamples

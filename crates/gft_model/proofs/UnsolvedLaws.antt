@@ -22,7 +22,7 @@ use Rattle.gft_model.specs.Unsolved.{IsNotAfter, AppliesAt, HoleAt, function_nam
 -- POSITIONS
 
 -- a list with one number more, at the end
-not_nil : (q : List ℕ) (j : ℕ) → [] ≡ q ++ j ∷ [] → ⊥
+pub not_nil : (q : List ℕ) (j : ℕ) → [] ≡ q ++ j ∷ [] → ⊥
 not_nil [] j e = cc
 not_nil (k ∷ q) j e = cc
 
@@ -81,7 +81,7 @@ layer_once : {o : Option Tree} {s u : Tree} {x y : Tree-F Tree} → o ≡ Some s
 layer_once {s = s} {u = u} b e c f = let equal : s ≡ u = cc in sym e ∙ ap out-Tree equal ∙ f
 
 module _ (a : Abstract) (t : Tree) where
-  applies_once : {p f g : List ℕ} {ts us : List Tree} → AppliesAt t p f ts → AppliesAt t p g us → (f ≡ g) × (ts ≡ us)
+  pub applies_once : {p f g : List ℕ} {ts us : List Tree} → AppliesAt t p f ts → AppliesAt t p g us → (f ≡ g) × (ts ≡ us)
   applies_once {f = f} {g = g} {ts = ts} {us = us} x y =
       let layers : ◌≡◌ {A = Tree-F Tree} (layer.App f ts) (layer.App g us) =
       layer_once x.stands x.applies y.stands y.applies in (cc, cc)
@@ -94,14 +94,14 @@ module _ (a : Abstract) (t : Tree) where
   hole_once {j = j} {k = k} x y =
       let layers : ◌≡◌ {A = Tree-F Tree} (layer.Hole j) (layer.Hole k) = layer_once x.stands x.hole y.stands y.hole in cc
 
-  must_once : {p : List ℕ} {c d : ℕ} → MustHave a t p c → MustHave a t p d → c ≡ d
+  pub must_once : {p : List ℕ} {c d : ℕ} → MustHave a t p c → MustHave a t p d → c ≡ d
   must_once (argument q i {name} {f} {ts} {type} e s named there) (argument r j {type = other} g z called here) =
       let places = last_once q r (suc i) (suc j) (sym e ∙ g) in
       let functions = function_once (subst (λ x. AppliesAt t x name ts) places.0 s) z named called in
       let numbers : i ≡ j = omega (arith, places.1) in
       ap category_in (sym there ∙ ap (λ k. slice_get k.args i) functions ∙ ap (slice_get _) numbers ∙ here)
 
-  has_once : {p : List ℕ} {c d : ℕ} → HasCategory a t p c → HasCategory a t p d → c ≡ d
+  pub has_once : {p : List ℕ} {c d : ℕ} → HasCategory a t p c → HasCategory a t p d → c ≡ d
   has_once (application s named) (application z called) = ap (λ f. f.result.cat) (function_once s z named called)
   has_once (application s named) (integer e i) = let h = layer_once s.stands s.applies e i in cc
   has_once (application s named) (text e i) = let h = layer_once s.stands s.applies e i in cc
