@@ -12,12 +12,12 @@ use Rattle.gft_model.specs.Commands.{Verb, Import, Empty, Quit, AbstractInfo, Wr
 use Rattle.std.specs.FinMap.{insert}
 use Rattle.gft_model.specs.AbstractInfo.{judgement_lines}
 use Rattle.gft_pmcfg.specs.declared.signature.Abstract.{Abstract}
-use Rattle.gft_model.specs.AnswerLaws.{AreDetermined}
 use Rattle.gft_model.specs.Commands as argument
 use Rattle.gft_model.specs.PortableFile.{file_bytes}
 use Rattle.gft_model.specs.Replies.{Item, a_text, Makes, parsed, completed, too_long, linearized, unsolved, passed, Parses, Completes, Runs, done, next, refused, AreTexts, languages_for, item_of, line_of}
 use Rattle.gft_model.specs.Shell.{Held, Answer, Lacks, no_grammar, no_language, no_such_language, no_such_category, LacksFirst, here, later, IsAlone, IsFileOf, Does, PipeSteps, AllSteps, Steps, IsAnswer, followed, replying, refusing, grammar_line, portable_limit, wrote_line}
-use Rattle.gft_model.specs.States.{Kept, Loaded, State, Sources, IsImported, Joins, IsCompiled, StandsFor, language_of, added}
+use Rattle.gft_syntax.specs.declared.flat.Flat.{Flat}
+use Rattle.gft_model.specs.States.{Kept, Loaded, State, Sources, Gives, IsImported, Joins, IsCompiled, StandsFor, language_of, added}
 use Rattle.gft_model.proofs.CommandLaws.{in_turn_once, zip_once, line_once}
 use Rattle.gft_model.proofs.ReplyLaws.{parses_once, completes_once, texts_once}
 use Rattle.gft_model.proofs.UnsolvedLaws.{reason_once}
@@ -108,7 +108,19 @@ lacks_first_once (later n d) (later m e) = lacks_first_once d e
 
 -- IMPORTS AND COMPILED GRAMMARS
 
-module _ (S : Sources) (determined : AreDetermined S) where
+-- any imports and compilation are determined: an import is not both accepted and refused, it has at most one refusal, each
+-- of its files gives at most one part, and each language compiles to at most one concrete syntax
+pub record IsDetermined (S : Sources) : Type 0 where
+  pub apart : (files : Files) (names : List (List ℕ)) (r : Refusal) (loaded : List (List ℕ)) → S.accepts files names
+      → ¬ S.refuses files names r loaded
+  pub one_refusal : (files : Files) (names : List (List ℕ)) (r s : Refusal) (loaded others : List (List ℕ))
+      → S.refuses files names r loaded → S.refuses files names s others → (r ≡ s) × (loaded ≡ others)
+  pub one_part : (files : Files) (names : List (List ℕ)) (name : List ℕ) (p q : Loaded) → Gives S files names name p
+      → Gives S files names name q → p ≡ q
+  pub one_compiled : (a : Abstract) (flat : Flat) (name : List ℕ) (c d : Concrete) → S.compiles a flat name c
+      → S.compiles a flat name d → c ≡ d
+
+module _ (S : Sources) (determined : IsDetermined S) where
   imported_once : {files : Files} {names : List (List ℕ)} {p q : Loaded} → IsImported S files names p
       → IsImported S files names q
       → p ≡ q

@@ -68,3 +68,4 @@ pub mod NameRefusalExamples
 pub mod TypeRefusalExamples
 pub mod RefusalOrder
 pub mod UnsolvedExamples
+pub mod SourcesDetermined

@@ -9,8 +9,7 @@ use Rattle.gft_model.specs.Commands.{Verb, Import, WritePortable, Read}
 use Rattle.gft_model.specs.Output.{is_plain, AreWords, none, a_file, only_files, an_out, an_out_is, a_count, a_count_is, Mode, session, make, workload, Asks, for_session, to_make, for_workload, Written, plain, before, IsPipeOf, pipe, bad_name, unbegun, LinesStep, end, quit, next, FilesStep, Output, workload_text, usage_line}
 use Rattle.gft_model.specs.Shell.{Held, Answer, PipeSteps, Steps}
 use Rattle.gft_model.specs.States.{Sources}
-use Rattle.gft_model.specs.AnswerLaws.{AreDetermined}
-use Rattle.gft_model.proofs.AnswerLaws.{answer_once, pipe_once}
+use Rattle.gft_model.proofs.AnswerLaws.{IsDetermined, answer_once, pipe_once}
 
 -- what the words of a program say
 record SameWords (outs counts files others numbers names : List (List ℕ)) : Type 0 where
@@ -74,7 +73,7 @@ pipe_is_once (pipe a) (bad_name n) = absurd (n a)
 pipe_is_once (bad_name n) (pipe a) = absurd (n a)
 pipe_is_once (bad_name n) (bad_name m) = refl
 
-module _ (S : Sources) (determined : AreDetermined S) where
+module _ (S : Sources) (determined : IsDetermined S) where
   files_once : {held : Held} {verb : Verb} {names : List (List ℕ)} {n m : ℕ} {x y : Answer}
       → FilesStep S held verb names n x → n ≡ 0
       → FilesStep S held verb names m y → m ≡ 0 → x ≡ y

@@ -26,7 +26,7 @@ pub not_nil : (q : List ℕ) (j : ℕ) → [] ≡ q ++ j ∷ [] → ⊥
 not_nil [] j e = cc
 not_nil (k ∷ q) j e = cc
 
-last_once : (p q : List ℕ) (i j : ℕ) → p ++ i ∷ [] ≡ q ++ j ∷ [] → (p ≡ q) × (i ≡ j)
+pub last_once : (p q : List ℕ) (i j : ℕ) → p ++ i ∷ [] ≡ q ++ j ∷ [] → (p ≡ q) × (i ≡ j)
 last_once [] [] i j e = (refl, cc)
 last_once [] (k ∷ q) i j e = absurd (not_nil q j cc)
 last_once (k ∷ p) [] i j e = absurd (not_nil p i cc)

@@ -3,15 +3,16 @@ use Rattle.std.specs.Prelude.{◌≡◌, ℕ, List}
 use Rattle.gft_core.specs.declared.tree.Tree.{Tree}
 use Rattle.gft_pmcfg.specs.declared.signature.Abstract.{Abstract}
 use Rattle.gft_pmcfg.specs.declared.concrete.Concrete.{Concrete}
-use Rattle.gft_rules.specs.declared.refusal.Refusal.{Refusal}
 use Rattle.gft_syntax.specs.declared.flat.Flat.{Flat}
 use Rattle.gft_io.specs.Outside.{Files}
 use Rattle.gft_model.specs.Commands.{Read, ReadsLine}
-use Rattle.gft_model.specs.Import.{sources}
+use Rattle.gft_model.specs.Import.{GivesPart, sources}
+use Rattle.gft_model.specs.Compiled.{Compiles}
+use Rattle.gft_model.specs.Loading.{HasFiles}
 use Rattle.gft_model.specs.Output.{Written, Output}
 use Rattle.gft_model.specs.Replies.{Item, Parses, Completes, AreTexts}
 use Rattle.gft_model.specs.Shell.{Held, Answer, IsAnswer}
-use Rattle.gft_model.specs.States.{Kept, Loaded, Sources, Gives, language_of}
+use Rattle.gft_model.specs.States.{Kept, Loaded, language_of}
 
 -- the characters of a line are read in at most one way
 abbrev pub LineIsReadOnce : Type 0
@@ -41,26 +42,24 @@ TextsAreDetermined =
     (a : Abstract) (l : List ℕ × Kept) (cat : ℕ) (t : Tree) (texts others : List (List (List ℕ)))
     → AreTexts (language_of a cat l) t texts → AreTexts (language_of a cat l) t others → texts ≡ others
 
--- imports and compilation are determined: an import is not both accepted and refused, it has at most one refusal, each
--- of its files gives at most one part, and each language compiles to at most one concrete syntax
-pub record AreDetermined (S : Sources) : Type 0 where
-  pub apart : (files : Files) (names : List (List ℕ)) (r : Refusal) (loaded : List (List ℕ)) → S.accepts files names
-      → ¬ S.refuses files names r loaded
-  pub one_refusal : (files : Files) (names : List (List ℕ)) (r s : Refusal) (loaded others : List (List ℕ))
-      → S.refuses files names r loaded → S.refuses files names s others → (r ≡ s) × (loaded ≡ others)
-  pub one_part : (files : Files) (names : List (List ℕ)) (name : List ℕ) (p q : Loaded) → Gives S files names name p
-      → Gives S files names name q → p ≡ q
-  pub one_compiled : (a : Abstract) (flat : Flat) (name : List ℕ) (c d : Concrete) → S.compiles a flat name c
-      → S.compiles a flat name d → c ≡ d
+-- imports and compilation of sources are determined: the loaded files of an import, what a source gives in it, and what a
+-- language compiles to
+pub record AreDetermined : Type 0 where
+  pub one_list : (files : Files) (names loaded others : List (List ℕ)) → HasFiles files names loaded
+      → HasFiles files names others → loaded ≡ others
+  pub one_part : (files : Files) (names : List (List ℕ)) (name : List ℕ) (p q : Loaded) → GivesPart files names name p
+      → GivesPart files names name q → p ≡ q
+  pub one_compiled : (a : Abstract) (flat : Flat) (name : List ℕ) (c d : Concrete) → Compiles a flat name c
+      → Compiles a flat name d → c ≡ d
 
 -- where they are, a session has at most one answer to a line in which no load or save fails
 abbrev pub SessionAnswersOnce : Type 0
 SessionAnswersOnce =
-    AreDetermined sources → (held : Held) (line : List ℕ) (x y : Answer) → IsAnswer sources held line x
+    AreDetermined → (held : Held) (line : List ℕ) (x y : Answer) → IsAnswer sources held line x
     → IsAnswer sources held line y → x ≡ y
 
 -- and a run in which none fails at most one output
 abbrev pub OutputIsDetermined : Type 0
 OutputIsDetermined =
-    AreDetermined sources → (words : List (List ℕ)) (input : List ℕ) (files : Files) (w v : Written)
+    AreDetermined → (words : List (List ℕ)) (input : List ℕ) (files : Files) (w v : Written)
     → Output sources words input files w → w.failures ≡ 0 → Output sources words input files v → v.failures ≡ 0 → w ≡ v
