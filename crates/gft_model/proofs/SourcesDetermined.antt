@@ -3,47 +3,16 @@ use Rattle.std.proofs.Common.{◌≡◌, refl, sym, ap, ◌∙◌, subst, ℕ, L
 use Rattle.std.specs.Prelude.{codes, map, Some}
 use Rattle.gft_pmcfg.specs.declared.concrete.Concrete.{Concrete}
 use Rattle.gft_pmcfg.specs.declared.grammar.Grammar.{Grammar}
-use Rattle.gft_rules.specs.declared.refusal.Refusal.{Refusal}
 use Rattle.gft_io.specs.Outside.{Files}
-use Rattle.gft_rules.specs.Rules.{code_of}
 use Rattle.gft_model.proofs.NoFlaw.{reads_once}
 use Rattle.gft_model.specs.AnswerLaws.{AreDetermined}
 use Rattle.gft_model.specs.Commands.{EndsIn, source_ending, portable_ending}
-use Rattle.gft_model.specs.Import.{sources}
+use Rattle.gft_model.specs.Import.{BreaksImport, sources}
 use Rattle.gft_model.specs.PortableFile.{Reads}
-use Rattle.gft_model.specs.Refusals.{Moment, Before, within, sooner, later_on, Faults, Earlier, by_moment, by_number, IsFirst}
+use Rattle.gft_model.proofs.RefusalOrder.{first-once}
 use Rattle.gft_model.specs.States.{Kept, Loaded, of_file, Gives, source, portable}
 use Rattle.gft_model.proofs.AnswerLaws.{IsDetermined}
 use Rattle.gft_model.proofs.UnsolvedLaws.{last_once}
-
--- nothing comes both before and after
-moments_apart : {p q u v : Moment} → p ≡ u → q ≡ v → Before p q → Before v u → ⊥
-moments_apart e f within within = cc
-moments_apart e f within (sooner k) = cc
-moments_apart e f within (later_on y) = cc
-moments_apart e f (sooner l) within = cc
-moments_apart e f (sooner {m} {n} l) (sooner {m = a} {n = b} k) =
-    let h : m ≡ b = cc in let g : n ≡ a = cc in absurd (omega (arith, l, k, h, g))
-moments_apart e f (sooner {m} {n} l) (later_on {n = a} y) =
-    let h : m ≡ a = cc in let g : n ≡ a = cc in absurd (omega (arith, l, h, g))
-moments_apart e f (later_on x) within = cc
-moments_apart e f (later_on {n} x) (sooner {m = a} {n = b} k) =
-    let h : n ≡ b = cc in let g : n ≡ a = cc in absurd (omega (arith, k, h, g))
-moments_apart e f (later_on {p} {q} x) (later_on {p = a} {q = b} y) =
-    let h : p ≡ b = cc in let g : q ≡ a = cc in moments_apart h g x y
-
-earlier_apart : {m n u v : Moment} {r s x y : Refusal} → m ≡ u → n ≡ v → r ≡ x → s ≡ y → Earlier m r n s → Earlier v y u x → ⊥
-earlier_apart e f g h (by_moment b) (by_moment c) = moments_apart e f b c
-earlier_apart e f g h (by_moment b) (by_number l) = moments_apart (e ∙ sym f) (f ∙ sym e) b b
-earlier_apart e f g h (by_number l) (by_moment c) = moments_apart (sym f ∙ e) (sym e ∙ f) c c
-earlier_apart e f g h (by_number l) (by_number k) =
-    absurd (omega (arith, l, k, ap (λ z. code_of z.rule) g, ap (λ z. code_of z.rule) h))
-
--- so there is one first refusal
-first_once : {B : Faults} {r s : Refusal} → IsFirst B r → IsFirst B s → r ≡ s
-first_once {r = r} {s = s} x y = ⊎_elim {C = r ≡ s} (λ e. sym e)
-    (λ l. ⊎_elim {C = r ≡ s} (λ e. e) (λ k. absurd (earlier_apart refl refl refl refl l k)) (y.no_earlier x.moment r x.broken))
-    (x.no_earlier y.moment s y.broken)
 
 -- a name does not end both ways
 endings_apart : {name : List ℕ} → EndsIn source_ending name → EndsIn portable_ending name → ⊥
@@ -66,7 +35,7 @@ part_once determined (portable {bytes} g e b x) (portable {bytes = others} h f c
 pub sources_determined : AreDetermined → IsDetermined sources
 sources_determined determined = record {
   apart = λ files names r loaded accepted refuses. accepted refuses.0.moment r refuses.0.broken;
-  one_refusal = λ files names r s loaded others x y. (first_once x.0 y.0, determined.one_list files names loaded others x.1 y.1);
+  one_refusal = λ files names r s loaded others x y. (first-once (BreaksImport files names) r s x.0 y.0, determined.one_list files names loaded others x.1 y.1);
   one_part = λ files names name p q x y. part_once determined x y;
   one_compiled = determined.one_compiled;
 }
