@@ -35,7 +35,10 @@ part_once determined (portable {bytes} g e b x) (portable {bytes = others} h f c
 pub sources_determined : AreDetermined → IsDetermined sources
 sources_determined determined = record {
   apart = λ files names r loaded accepted refuses. accepted refuses.0.moment r refuses.0.broken;
-  one_refusal = λ files names r s loaded others x y. (first-once (BreaksImport files names) r s x.0 y.0, determined.one_list files names loaded others x.1 y.1);
+  one_refusal = λ files names r s loaded others x y. (
+    first-once (BreaksImport files names) r s x.0 y.0,
+    determined.one_list files names loaded others x.1 y.1,
+  );
   one_part = λ files names name p q x y. part_once determined x y;
   one_compiled = determined.one_compiled;
 }
