@@ -18,7 +18,11 @@ uncalled failing = record { failing = failing; made = 0; faults = 0 }
 
 -- after one more call, and whether it failed
 abbrev pub after_call : CallState → Bool → CallState
-after_call calls failed = record { failing = calls.failing; made = raised calls.made 1; faults = if failed then raised calls.faults 1 else calls.faults }
+after_call calls failed = record {
+  failing = calls.failing;
+  made = raised calls.made 1;
+  faults = if failed then raised calls.faults 1 else calls.faults;
+}
 
 -- a source: what is left, and how many bytes were taken
 pub record SourceState : Type 0 where
@@ -58,9 +62,11 @@ pub record IsFirstNamed (name : List ℕ) (files : List (List ℕ × Vec ℕ Glo
 -- calls are stored as their three parts
 abbrev pub calls_code : Coded CallState
 calls_code =
-    code_by (List ℕ × (ℕ × ℕ)) (coded× (coded_list coded_ℕ) (coded× coded_ℕ coded_ℕ)) (λ c. (c.failing, (c.made, c.faults))) (λ p. record { failing = p.0; made = p.1.0; faults = p.1.1 }) (λ _. refl)
+    code_by (List ℕ × (ℕ × ℕ)) (coded× (coded_list coded_ℕ) (coded× coded_ℕ coded_ℕ)) (λ c. (c.failing, (c.made, c.faults)))
+    (λ p. record { failing = p.0; made = p.1.0; faults = p.1.1 }) (λ _. refl)
 
 -- a store is stored as its files and its calls
 abbrev pub store_code : Coded StoreState
 store_code =
-    code_by (Files × CallState) (coded× (code (coded_list coded_ℕ) (coded_list coded_ℕ)) calls_code) (λ s. (s.files, s.calls)) (λ p. record { files = p.0; calls = p.1 }) (λ _. refl)
+    code_by (Files × CallState) (coded× (code (coded_list coded_ℕ) (coded_list coded_ℕ)) calls_code) (λ s. (s.files, s.calls))
+    (λ p. record { files = p.0; calls = p.1 }) (λ _. refl)

@@ -6,7 +6,8 @@ use Rattle.gft_io.specs.declared.lines.LineErr.{LineErr}
 use Rattle.gft_io.specs.declared.lines.LineErr.TheVariants.{ReadFault, InputLimit, LineTooLong, NoMemory}
 use Rattle.gft_io.specs.Lines.{line_limit, input_limit, HasNoNewline, first_line, after_line, line_size, lines_of}
 
--- the bytes of the lines that are done with, those dropped of a begun line that is too long, the begun line, and what was read ahead
+-- the bytes of the lines that are done with, those dropped of a begun line that is too long, the begun line,
+-- and what was read ahead
 pub record Place : Type 0 where
   pub passed : ℕ
   pub skipped : ℕ
@@ -48,7 +49,8 @@ pub record Passes (old new : Place) (left : Option (List ℕ)) (bytes : List ℕ
 
 -- What a call answers where these bytes are still to be cut.
 abbrev pub Answers : Place → Place → Option (List ℕ) → List ℕ → Result (Option (Vec ℕ Global)) LineErr → Type 0
-Answers old new left bytes (Ok (Some line)) = Passes old new left bytes × (line.items ≡ first_line bytes) × (length line.items ≤ line_limit)
+Answers old new left bytes (Ok (Some line)) =
+    Passes old new left bytes × (line.items ≡ first_line bytes) × (length line.items ≤ line_limit)
 Answers old new left bytes (Ok None) = (bytes ≡ []) × Pends new left []
 Answers old new left bytes (Err LineTooLong) = Passes old new left bytes × (line_limit < length (first_line bytes))
 Answers old new left bytes (Err InputLimit) = (input_limit < old.passed + line_size bytes) × Pends new left bytes

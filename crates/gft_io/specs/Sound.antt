@@ -2,7 +2,8 @@
 use Rattle.std.specs.Prelude.{◌≡◌, ℕ, ◌+◌, ◌<◌, ◌≤◌, List, length}
 use Rattle.gft_io.specs.Lines.{line_limit, input_limit, HasNoNewline}
 
--- the begun line has no newline and is not too long; what is dropped is too long; and only one byte past the limit is ever taken, alone
+-- the begun line has no newline and is not too long; what is dropped is too long; and only one byte past the
+-- limit is ever taken, alone
 pub record IsSound (passed skipped : ℕ) (begun : List ℕ) (ahead : ℕ) : Type 0 where
   pub unended : HasNoNewline begun
   pub short : length begun ≤ line_limit

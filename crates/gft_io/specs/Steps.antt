@@ -20,15 +20,27 @@ with_ahead place = record { passed = place.passed; skipped = place.skipped; begu
 
 -- what was read ahead is dropped with the begun line
 abbrev pub without_line : Place → Place
-without_line place = record { passed = place.passed; skipped = place.skipped + length place.begun + length place.ahead; begun = []; ahead = [] }
+without_line place = record {
+  passed = place.passed;
+  skipped = place.skipped + length place.begun + length place.ahead;
+  begun = [];
+  ahead = [];
+}
 
 -- the begun line has its end at this place of what was read ahead, and size of the bytes there are passed with it
 abbrev pub past : Place → ℕ → Place
-past place size = record { passed = place.passed + place.skipped + length place.begun + size; skipped = 0; begun = []; ahead = drop size place.ahead }
+past place size = record {
+  passed = place.passed + place.skipped + length place.begun + size;
+  skipped = 0;
+  begun = [];
+  ahead = drop size place.ahead;
+}
 
 -- the line that ends before this newline is given, or skipped where it is too long
 abbrev pub EndsLine : Place → Place → ℕ → Result (Option (Vec ℕ Global)) LineErr → Type 0
-EndsLine old new end (Ok (Some line)) = (old.skipped ≡ 0) × (line.items ≡ old.begun ++ take end old.ahead) × (length line.items ≤ line_limit) × (new ≡ past old (end + 1))
+EndsLine old new end (Ok (Some line)) =
+    (old.skipped ≡ 0) × (line.items ≡ old.begun ++ take end old.ahead) × (length line.items ≤ line_limit)
+    × (new ≡ past old (end + 1))
 EndsLine old new end (Ok None) = ⊥
 EndsLine old new end (Err LineTooLong) = (line_limit < old.skipped + length old.begun + end) × (new ≡ past old (end + 1))
 EndsLine old new end (Err InputLimit) = ⊥
@@ -37,7 +49,9 @@ EndsLine old new end (Err NoMemory) = new ≡ old
 
 -- the begun line at the end of input is given, or skipped where it is too long, or there is none
 abbrev pub EndsInput : Place → Place → Result (Option (Vec ℕ Global)) LineErr → Type 0
-EndsInput old new (Ok (Some line)) = (old.skipped ≡ 0) × (line.items ≡ old.begun) × (0 < length old.begun) × (length old.begun ≤ line_limit) × (new ≡ past old 0)
+EndsInput old new (Ok (Some line)) =
+    (old.skipped ≡ 0) × (line.items ≡ old.begun) × (0 < length old.begun) × (length old.begun ≤ line_limit)
+    × (new ≡ past old 0)
 EndsInput old new (Ok None) = (old.skipped ≡ 0) × (old.begun ≡ []) × (new ≡ old)
 EndsInput old new (Err LineTooLong) = (line_limit < old.skipped + length old.begun) × (new ≡ past old 0)
 EndsInput old new (Err InputLimit) = ⊥
