@@ -69,3 +69,4 @@ pub mod TypeRefusalExamples
 pub mod RefusalOrder
 pub mod UnsolvedExamples
 pub mod SourcesDetermined
+pub mod ImportExamples
