@@ -310,6 +310,8 @@ module _ (flat : Flat) where
         j ≡ J.Oper ns (x ∷ xs) (D.Overload ds) →
         BreaksTypes lang w j (0 ∷ 1 ∷ []) (refusal R.NoType (bind_place x) [])
     in_sites : {at : Moment} {r : Refusal} → BreaksSites (judgement_sites lang w.name j) at r → BreaksTypes lang w j at r
+    undefined_definition : {e : Term} {v : Whole} {p : Place} → unwritten j ≡ Some e → form e ≡ T.Var (WholeName v) p →
+        Contains (items flat) (bare_parameter v) → BreaksTypes lang w j (1 ∷ []) (refusal R.Unknown (place_of e) (v.name ∷ []))
     at_definition : {e : Term} {S : CType} {rule : Rule} {names : List (List ℕ)} → unwritten j ≡ Some e →
         FoundFor flat e [] S → IsSort S →
         BreaksSort [] e S rule names → BreaksTypes lang w j (1 ∷ []) (refusal rule (place_of e) names)
