@@ -4,6 +4,8 @@ pub mod OutcomeExamples
 pub mod MatchExamples
 pub mod TypeExamples
 pub mod SourceExamples
+pub mod ModuleExamples
+pub mod FlatExamples
 pub mod TermTreeExamples
 pub mod CompiledExamples
 pub mod CaseLaws

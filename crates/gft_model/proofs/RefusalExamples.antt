@@ -15,8 +15,8 @@ use Rattle.gft_syntax.specs.declared.token.SourceToken.{SourceToken}
 use Rattle.gft_syntax.specs.declared.token.Symbol.TheVariants as S
 use Rattle.gft_syntax.specs.declared.token.TokenForm.{TokenForm}
 use Rattle.gft_syntax.specs.declared.token.TokenForm.TheVariants.{Identifier, Reserved, Number, Symbol}
-use Rattle.gft_model.specs.Grammar.{IsReserved, one, more}
-use Rattle.gft_model.specs.ModuleGrammar.{SpellsJudgement, SpellsSlice, with_keyword, goes_on, keyword_word, category, function, linearization, no_context}
+use Rattle.gft_model.specs.Grammar.{IsReserved, one, more, none}
+use Rattle.gft_model.specs.ModuleGrammar.{SpellsJudgement, SpellsSlice, with_keyword, goes_on, keyword_word, category, function, linearization}
 use Rattle.gft_model.specs.Refusals.{refusal}
 use Rattle.gft_model.specs.Source.{lexeme_at, longest, token, nothing}
 use Rattle.gft_model.specs.SyntaxFaults
@@ -140,4 +140,4 @@ no_type = SyntaxFaults.not_in_grammar has_slice not_derivable refl (SyntaxFaults
 
 -- the slice before it is in the grammar, so it is not the first that is not
 pub category_is_derivable : SyntaxFaults.IsDerivable (SyntaxFaults.ended None) category_slice
-category_is_derivable = SyntaxFaults.a_judgement (with_keyword {k = K.Cat} refl (category {cs = []} refl no_context))
+category_is_derivable = SyntaxFaults.a_judgement (with_keyword {k = K.Cat} refl (category {cs = []} refl none))

@@ -1,22 +1,24 @@
 -- The resolved grammar of modules: every judgement that counts, under its whole name, with each name
 -- in it replaced by what it means.
-use Rattle.std.specs.Prelude.{◌≡◌, ℕ, List, [], ◌∷◌, ◌++◌, map, filter, Bool, true, false, ◌↔◌, bytes_eq, Contains, Option, Some, None, ◌≢◌}
+use Rattle.std.specs.Prelude.{◌≡◌, ℕ, List, [], ◌∷◌, map, filter, Bool, true, false, ◌&&◌, ◌↔◌, bytes_eq, codes, Contains, AllPairs, Option, Some, None, ◌≢◌, if◌then◌else◌}
+use Rattle.std.specs.List.{list_any}
+use Rattle.std.specs.Cmp.Lexicographic.{slice_cmp}
+use Rattle.std.specs.Ordering.{nat_cmp}
+use Rattle.std.specs.declared.cmp.Ordering.TheVariants.{Less, Equal, Greater}
 use Rattle.gft_syntax.specs.declared.flat.Flat.{Flat}
 use Rattle.gft_syntax.specs.declared.flat.FlatConcrete.{FlatConcrete}
 use Rattle.gft_syntax.specs.declared.flat.FlatJudgement.{FlatJudgement}
 use Rattle.gft_syntax.specs.declared.judgement.Constructor.{Constructor}
 use Rattle.gft_syntax.specs.declared.judgement.Judgement.{Judgement}
 use Rattle.gft_syntax.specs.declared.judgement.Judgement.TheVariants as J
-use Rattle.gft_syntax.specs.declared.module.Header.TheVariants.{Instance, Concrete}
-use Rattle.gft_syntax.specs.declared.module.Inherited.{Inherited}
+use Rattle.gft_syntax.specs.declared.judgement.Setting.TheVariants as V
+use Rattle.gft_syntax.specs.declared.module.Header.{Header}
+use Rattle.gft_syntax.specs.declared.module.Header.TheVariants.{Abstract, Concrete}
 use Rattle.gft_syntax.specs.declared.module.Module.{Module}
-use Rattle.gft_syntax.specs.declared.module.Rest.TheVariants.{With}
-use Rattle.gft_syntax.specs.declared.module.Body.{Body}
-use Rattle.gft_syntax.specs.declared.module.Substitution.{Substitution}
 use Rattle.gft_syntax.specs.declared.reference.PlacedName.{PlacedName}
 use Rattle.gft_syntax.specs.declared.reference.Whole.{Whole}
 use Rattle.gft_model.specs.JudgementTyping.{list_name}
-use Rattle.gft_model.specs.Modules.{Is, Has, Writes, Means, Declared, module_of, bare, qualified, OpensAs, inherited_of, inherited_name}
+use Rattle.gft_model.specs.Modules.{Is, Has, Writes, Means, Declared, module_of, module_named, named_by_header, named_modules, judgements_of, main_name, Written, bare, qualified, name_of}
 use Rattle.gft_model.specs.Resolution.{Names, resolved_judgement}
 
 -- the whole name of a judgement under one of its names
@@ -38,70 +40,88 @@ alone x (J.OperTyped ns T d) = J.OperTyped (only x ns) T d
 alone x (J.Oper ns xs d) = J.Oper (only x ns) xs d
 alone x j = j
 
--- the parts of a resolved grammar
+-- the parts of a resolved grammar beside its languages
 pub data Part : Type 0 where
   categories : Part
   functions : Part
   parameters : Part
   opers : Part
-  linearizations : Part
 
--- the part to which a judgement belongs under a name; a constructor belongs to its parameter type
-abbrev pub list_part : Bool → Part
-list_part true = categories
-list_part false = functions
-
-abbrev pub parameter_part : Bool → Option Part
-parameter_part true = Some parameters
-parameter_part false = None
-
+-- the part to which a judgement belongs under a name; a constructor stands in its parameter type
 abbrev pub part_of : List ℕ → Judgement → Option Part
 part_of x (J.Cat n cs) = Some categories
-part_of x (J.ListCat n r k place) = Some (list_part (bytes_eq x (list_name n.name)))
+part_of x (J.ListCat n r k place) = if bytes_eq x (list_name n.name) then Some categories else Some functions
 part_of x (J.Fun ns T) = Some functions
-part_of x (J.Flag n v) = None
-part_of x (J.Lincat ns T) = Some linearizations
-part_of x (J.Lin ns xs e) = Some linearizations
-part_of x (J.Lindef ns xs e) = Some linearizations
-part_of x (J.Linref ns xs e) = Some linearizations
 part_of x (J.ParamName n) = Some parameters
-part_of x (J.Param n cs) = parameter_part (bytes_eq x n.name)
+part_of x (J.Param n cs) = Some parameters
 part_of x (J.OperType ns T) = Some opers
 part_of x (J.OperTyped ns T d) = Some opers
 part_of x (J.Oper ns xs d) = Some opers
+part_of x j = None
+
+-- what a judgement of a language is of: the category or the function of its name
+abbrev pub linearized_part : Judgement → Option Part
+linearized_part (J.Lincat ns T) = Some categories
+linearized_part (J.Lin ns xs e) = Some functions
+linearized_part (J.Lindef ns xs e) = Some categories
+linearized_part (J.Linref ns xs e) = Some categories
+linearized_part j = None
 
 -- the judgement declares the name as a constructor
 abbrev pub IsConstructor : Judgement → List ℕ → Type 0
-IsConstructor j x = (n : PlacedName) × (cs : List Constructor) × (j ≡ J.Param n cs) × Contains (map (λ (c : Constructor). c.name.name) cs) x
+IsConstructor j x =
+    (n : PlacedName) × (cs : List Constructor) × (j ≡ J.Param n cs) × Contains (map (λ (c : Constructor). c.name.name) cs) x
+
+-- the start category: that of the last flag whose value is a category
+abbrev pub is_category : List (List ℕ) → List ℕ → Bool
+is_category cats C = list_any (bytes_eq C) (codes "Int" ∷ codes "String" ∷ cats)
+
+abbrev pub flag_value : List (List ℕ) → Judgement → Option (List ℕ)
+flag_value cats (J.Flag n (V.Name C)) =
+    if bytes_eq n.name (codes "startcat") && is_category cats C then Some C else None
+flag_value cats j = None
+
+abbrev pub last_value : List (List ℕ) → List Judgement → Option (List ℕ) → Option (List ℕ)
+last_value cats [] found = found
+last_value cats (j ∷ js) found =
+    last_value cats js (elim (flag_value cats j) [ Some C ↦ Some C | None ↦ found ])
+
+-- else S, else the first category by name, else Int
+abbrev pub first_name : List ℕ → List (List ℕ) → List ℕ
+first_name C [] = C
+first_name C (D ∷ Ds) = first_name (elim (slice_cmp nat_cmp D C) [ Less ↦ D | Equal ↦ C | Greater ↦ C ]) Ds
+
+abbrev pub default_start : List (List ℕ) → List ℕ
+default_start [] = codes "Int"
+default_start (C ∷ Cs) = if list_any (bytes_eq (codes "S")) (C ∷ Cs) then codes "S" else first_name C Cs
+
+abbrev pub start_of : List (List ℕ) → List Judgement → List ℕ
+start_of cats js = elim (last_value cats js None) [ Some C ↦ C | None ↦ default_start cats ]
+
+abbrev pub is_complete_concrete : Header → Bool
+is_complete_concrete (Concrete n a) = true
+is_complete_concrete h = false
 
 module _ (mods : List Module) where
-  -- a module that another names in its header or opens
-  pub data Names_ : List ℕ → List ℕ → Type 0 where
-    an_interface : {M : List ℕ} {m : Module} {n i : PlacedName} → Is mods M m →
-        m.header ≡ Instance n i → Names_ M i.name
-    an_abstract : {M : List ℕ} {m : Module} {n a : PlacedName} → Is mods M m →
-        m.header ≡ Concrete n a → Names_ M a.name
-    an_inherited : {M : List ℕ} {m : Module} {h : Inherited} → Is mods M m →
-        Contains (inherited_of m.rest) h → Names_ M (inherited_name h)
-    an_opened : {M Q N : List ℕ} {m : Module} → Is mods M m → OpensAs mods m Q N → Names_ M N
-    a_functor : {M : List ℕ} {m : Module} {hs : List Inherited} {f : Inherited} {ss : List Substitution} {b : Option Body} →
-        Is mods M m → m.rest ≡ With hs f ss b → Names_ M (inherited_name f)
-    an_argument : {M : List ℕ} {m : Module} {hs : List Inherited} {f : Inherited} {ss : List Substitution} {b : Option Body} {s : Substitution} →
-        Is mods M m → m.rest ≡ With hs f ss b → Contains ss s → Names_ M s.instance.name
-
   -- a module rests on itself, on what it names, and so on
   pub data RestsOn : List ℕ → List ℕ → Type 0 where
     itself : {M : List ℕ} → RestsOn M M
-    through : {M N K : List ℕ} → Names_ M N → RestsOn N K → RestsOn M K
+    through : {M N K : List ℕ} {m : Module} →
+        Is mods M m → Contains (named_modules m) N → RestsOn N K → RestsOn M K
 
-  -- what the names of a judgement mean, and which whole names are constructors
+  -- the one thing that a name in a judgement means; several are no fault where the name is not used
+  pub record IsMeaning (d : Declared) (w : Written) (whole : Whole) : Type 0 where
+    pub some_meaning : Declared
+    pub means : Means mods d w some_meaning
+    pub only_one : (e : Declared) → Means mods d w e → whole ≡ whole_of (name_of w) e
+
+  -- what the names of a judgement mean, and which are constructors
   pub record AreMeanings (d : Declared) (names : Names) : Type 0 where
-    pub of_bare : (x : List ℕ) (w : Whole) →
-        (names.bare x ≡ Some w) ↔ ((e : Declared) × Means mods d (bare x) e × (w ≡ whole_of x e))
+    pub of_bare : (x : List ℕ) (w : Whole) → (names.bare x ≡ Some w) ↔ IsMeaning d (bare x) w
     pub of_qualified : (Q x : List ℕ) (w : Whole) →
-        (names.qualified Q x ≡ Some w) ↔ ((e : Declared) × Means mods d (qualified Q x) e × (w ≡ whole_of x e))
-    pub of_constructors : (w : Whole) →
-        (names.is_constructor w ≡ true) ↔ ((e : Declared) × (j : Judgement) × Writes mods e j × IsConstructor j w.name × (w ≡ whole_of w.name e))
+        (names.qualified Q x ≡ Some w) ↔ IsMeaning d (qualified Q x) w
+    pub of_constructors : (x : List ℕ) → (names.is_constructor x ≡ true) ↔
+        ((e : Declared) × (j : Judgement) × Means mods d (bare x) e × Writes mods e j × IsConstructor j x)
 
   -- the entry of a judgement under one of its names
   pub record IsEntry (x : List ℕ) (d : Declared) (e : FlatJudgement) : Type 0 where
@@ -112,28 +132,64 @@ module _ (mods : List Module) where
     pub whole : e.whole ≡ whole_of x d
     pub judgement : e.judgement ≡ resolved_judgement names (alone x text)
 
+  -- the module has a judgement under the name, of that part
+  pub record HasOfPart (p : Part) (M x : List ℕ) (d : Declared) (j : Judgement) : Type 0 where
+    pub has : Has mods M x d
+    pub writes : Writes mods d j
+    pub part : part_of x j ≡ Some p
+
   -- what a module has of a part
   abbrev pub HasEntry : Part → List ℕ → FlatJudgement → Type 0
   HasEntry p M e =
-      (x : List ℕ) × (d : Declared) × (j : Judgement) × Has mods M x d × Writes mods d j × (part_of x j ≡ Some p) × IsEntry x d e
+      (x : List ℕ) × (d : Declared) × (j : Judgement) × HasOfPart p M x d j × IsEntry (main_name j x) d e
 
   -- what some module that the chosen ones rest on has of a part
   abbrev pub HasSomewhere : Part → List (List ℕ) → FlatJudgement → Type 0
   HasSomewhere p chosen e = (C : List ℕ) × (M : List ℕ) × Contains chosen C × RestsOn C M × HasEntry p M e
 
+  -- what a concrete module says of the categories and functions of its abstract module; what it says of
+  -- others is no part of the language
+  pub record HasLinearization (M : List ℕ) (e : FlatJudgement) : Type 0 where
+    pub text : Module
+    pub abstract_name : List ℕ
+    pub name : List ℕ
+    pub declared : Declared
+    pub judgement : Judgement
+    pub part : Part
+    pub is : Is mods M text
+    pub of_abstract : Contains (named_by_header text.header) abstract_name
+    pub has : Has mods M name declared
+    pub writes : Writes mods declared judgement
+    pub part_is : linearized_part judgement ≡ Some part
+    pub linearized : (d : Declared) × (j : Judgement) × HasOfPart part abstract_name name d j
+    pub entry : IsEntry name declared e
+
   -- the entries are exactly those of the relation, each once
   pub record AreExactly (es : List FlatJudgement) (P : FlatJudgement → Type 0) : Type 0 where
     pub all : (e : FlatJudgement) → Contains es e ↔ P e
-    pub once : (before between after : List FlatJudgement) (e f : FlatJudgement) →
-        es ≡ before ++ e ∷ between ++ f ∷ after → e ≢ f
+    pub once : AllPairs ◌≢◌ es
 
-  -- the resolved grammar of the chosen modules, whose abstract module is A
-  pub record IsFlat (A : List ℕ) (chosen : List (List ℕ)) (flat : Flat) : Type 0 where
-    pub name : flat.name ≡ Some A
-    pub cats : AreExactly flat.cats (HasEntry categories A)
-    pub funs : AreExactly flat.funs (HasEntry functions A)
+  -- the abstract part: that of the abstract module among the chosen ones, or none
+  pub data HasAbstract (chosen : List (List ℕ)) (flat : Flat) : Type 0 where
+    of_module : {m : Module} (n : PlacedName) →
+        Contains chosen n.name → Is mods n.name m → m.header ≡ Abstract n → flat.name ≡ Some n.name →
+        flat.start ≡ Some (start_of (map (λ e. e.whole.name) flat.cats) (judgements_of m)) →
+        AreExactly flat.cats (HasEntry categories n.name) → AreExactly flat.funs (HasEntry functions n.name) →
+        HasAbstract chosen flat
+    of_none : ((m : Module) (n : PlacedName) →
+        Contains chosen n.name → Is mods n.name m → ¬ (m.header ≡ Abstract n)) →
+        flat.name ≡ None → flat.start ≡ None → flat.cats ≡ [] → flat.funs ≡ [] → HasAbstract chosen flat
+
+  -- a name of a complete concrete module
+  abbrev pub is_language : List ℕ → Bool
+  is_language M = elim (module_named mods M) [ Some m ↦ is_complete_concrete m.header | None ↦ false ]
+
+  -- the resolved grammar of the chosen modules
+  pub record IsFlat (chosen : List (List ℕ)) (flat : Flat) : Type 0 where
+    pub has_abstract : HasAbstract chosen flat
     pub params : AreExactly flat.params (HasSomewhere parameters chosen)
     pub opers_of : AreExactly flat.opers (HasSomewhere opers chosen)
-    pub languages : (c : FlatConcrete) → Contains flat.concretes c →
-        Contains chosen c.name × AreExactly c.judgements (HasEntry linearizations c.name)
+    pub languages : map (λ c. c.name) flat.concretes ≡ filter is_language chosen
+    pub judgements : (c : FlatConcrete) → Contains flat.concretes c →
+        AreExactly c.judgements (HasLinearization c.name)
     pub typed : flat.typed ≡ []

@@ -16,10 +16,8 @@ use Rattle.gft_syntax.specs.declared.module.Body.{Body}
 use Rattle.gft_syntax.specs.declared.module.Header.{Header}
 use Rattle.gft_syntax.specs.declared.module.Header.TheVariants as H
 use Rattle.gft_syntax.specs.declared.module.Inherited.{Inherited}
-use Rattle.gft_syntax.specs.declared.module.Inherited.TheVariants.{Whole, Only, Except}
 use Rattle.gft_syntax.specs.declared.module.Module.{Module}
 use Rattle.gft_syntax.specs.declared.module.Opened.{Opened}
-use Rattle.gft_syntax.specs.declared.module.Opened.TheVariants.{Plain, Qualified}
 use Rattle.gft_syntax.specs.declared.module.Rest.{Rest}
 use Rattle.gft_syntax.specs.declared.module.Rest.TheVariants.{Own, Inherits, With}
 use Rattle.gft_syntax.specs.declared.module.Substitution.{Substitution}
@@ -32,8 +30,7 @@ use Rattle.gft_syntax.specs.declared.token.SourceToken.{SourceToken}
 use Rattle.gft_syntax.specs.declared.token.Symbol.TheVariants as S
 use Rattle.gft_syntax.specs.declared.token.TokenForm.{TokenForm}
 use Rattle.gft_syntax.specs.declared.token.TokenForm.TheVariants.{Reserved, Symbol}
-use Rattle.gft_model.specs.Grammar.{Tokens, Is, IsReserved, IsNamed, IsNumber, IsQuoted, Commas, SpellsNames, SpellsBind, SpellsBinds, SpellsTerm, exp, exp6}
-use Rattle.gft_model.specs.JudgementTyping.{list_name}
+use Rattle.gft_model.specs.Grammar.{Tokens, Is, IsReserved, IsNamed, IsNumber, IsQuoted, placed, Spells, term, exp, alternative, context, constructor, bind, placed_name, category_name, inherited, opened, substitution, listed, semicolons, many}
 
 -- what is open in a body besides its own brace: a bracket of any kind, or a let
 pub data Opening : Type 0 where
@@ -99,73 +96,11 @@ slices_from os held (t ∷ ts) =
 abbrev pub slices_of : Tokens → Option (List Tokens × Tokens)
 slices_of ts = slices_from [] [] ts
 
--- a name at its place
-abbrev pub placed : List ℕ → SourceToken → PlacedName
-placed x t = record { name = x; place = t.place }
-
--- a name with its place, and one or more with commas between
-pub data SpellsPlacedName : Tokens → PlacedName → Tokens → Type 0 where
-  a_placed_name : {x : List ℕ} {t : SourceToken} {ts : Tokens} → IsNamed x t →
-      SpellsPlacedName (t ∷ ts) (placed x t) ts
-
-abbrev pub SpellsPlaced : Tokens → List PlacedName → Tokens → Type 0
-SpellsPlaced = Commas SpellsPlacedName
-
--- the name of a linearization: [C] is ListC at the bracket
-pub data SpellsCategory : Tokens → PlacedName → Tokens → Type 0 where
-  plain : {x : List ℕ} {t : SourceToken} {ts : Tokens} → IsNamed x t →
-      SpellsCategory (t ∷ ts) (placed x t) ts
-  of_list : {x : List ℕ} {l t r : SourceToken} {ts : Tokens} → Is S.LeftBracket l → IsNamed x t →
-      Is S.RightBracket r → SpellsCategory (l ∷ t ∷ r ∷ ts) (placed (list_name x) l) ts
-
-abbrev pub SpellsCategories : Tokens → List PlacedName → Tokens → Type 0
-SpellsCategories = Commas SpellsCategory
-
--- arguments: any number
-pub data SpellsParameters : Tokens → List Bind → Tokens → Type 0 where
-  no_parameter : {ts : Tokens} → SpellsParameters ts [] ts
-  parameter : {b : Bind} {bs : List Bind} {ts us rest : Tokens} → SpellsBind ts b us →
-      SpellsParameters us bs rest → SpellsParameters ts (b ∷ bs) rest
-
--- contexts: any number
-pub data SpellsContexts : Tokens → List Context → Tokens → Type 0 where
-  no_context : {ts : Tokens} → SpellsContexts ts [] ts
-  with_variables : {ts us vs rest : Tokens} {l c r : SourceToken} {bs : List Bind} {a : Term} {cs : List Context} →
-      Is S.LeftParenthesis l → SpellsBinds ts bs (c ∷ us) → Is S.Colon c →
-      SpellsTerm exp us a (r ∷ vs) → Is S.RightParenthesis r → SpellsContexts vs cs rest →
-      SpellsContexts (l ∷ ts) (record { binds = bs; of_type = a } ∷ cs) rest
-  without : {ts us rest : Tokens} {a : Term} {cs : List Context} → SpellsTerm exp6 ts a us →
-      SpellsContexts us cs rest → SpellsContexts ts (record { binds = []; of_type = a } ∷ cs) rest
-
--- constructors: one or more with bars between
-pub data SpellsConstructors : Tokens → List Constructor → Tokens → Type 0 where
-  one_constructor : {x : List ℕ} {t : SourceToken} {ts rest : Tokens} {cs : List Context} →
-      IsNamed x t → SpellsContexts ts cs rest →
-      SpellsConstructors (t ∷ ts) (record { name = placed x t; arguments = cs } ∷ []) rest
-  more_constructors : {x : List ℕ} {t b : SourceToken} {ts us rest : Tokens} {cs : List Context} {ds : List Constructor} →
-      IsNamed x t → SpellsContexts ts cs (b ∷ us) → Is S.Bar b → SpellsConstructors us ds rest →
-      SpellsConstructors (t ∷ ts) (record { name = placed x t; arguments = cs } ∷ ds) rest
-
--- f, g : T = e in an overload
-pub data SpellsAlternative : Tokens → Alternative → Tokens → Type 0 where
-  alternative : {ts us vs rest : Tokens} {c e : SourceToken} {xs : List (List ℕ)} {a b : Term} →
-      SpellsNames ts xs (c ∷ us) → Is S.Colon c → SpellsTerm exp us a (e ∷ vs) → Is S.Equals e →
-      SpellsTerm exp vs b rest →
-      SpellsAlternative ts (record { names = xs; of_type = a; value = b }) rest
-
-pub data SpellsAlternatives : Tokens → List Alternative → Tokens → Type 0 where
-  no_alternative : {ts : Tokens} → SpellsAlternatives ts [] ts
-  last_alternative : {ts rest : Tokens} {d : Alternative} → SpellsAlternative ts d rest →
-      SpellsAlternatives ts (d ∷ []) rest
-  next_alternative : {ts us rest : Tokens} {s : SourceToken} {d : Alternative} {ds : List Alternative} →
-      SpellsAlternative ts d (s ∷ us) → Is S.Semicolon s → SpellsAlternatives us ds rest →
-      SpellsAlternatives ts (d ∷ ds) rest
-
 -- a definition, to the end of the slice
 pub data SpellsDefinition : Tokens → Definition → Type 0 where
-  by_term : {ts : Tokens} {e : Term} → SpellsTerm exp ts e [] → SpellsDefinition ts (D.Term e)
+  by_term : {ts : Tokens} {e : Term} → Spells (term exp) ts e [] → SpellsDefinition ts (D.Term e)
   by_overload : {ts : Tokens} {o l r : SourceToken} {ds : List Alternative} →
-      IsReserved W.Overload o → Is S.LeftBrace l → SpellsAlternatives ts ds (r ∷ []) →
+      IsReserved W.Overload o → Is S.LeftBrace l → Spells (semicolons alternative) ts ds (r ∷ []) →
       Is S.RightBrace r → SpellsDefinition (o ∷ l ∷ ts) (D.Overload ds)
 
 -- the value of a flag, to the end of the slice
@@ -187,7 +122,7 @@ pub data Linearization : Keyword → (List PlacedName → List Bind → Term →
 -- the tokens after a keyword are the judgement
 pub data SpellsJudgement : Keyword → Tokens → Judgement → Type 0 where
   category : {x : List ℕ} {t : SourceToken} {ts : Tokens} {cs : List Context} → IsNamed x t →
-      SpellsContexts ts cs [] → SpellsJudgement K.Cat (t ∷ ts) (J.Cat (placed x t) cs)
+      Spells (many context) ts cs [] → SpellsJudgement K.Cat (t ∷ ts) (J.Cat (placed x t) cs)
   list_category : {x : List ℕ} {l t r : SourceToken} → Is S.LeftBracket l → IsNamed x t →
       Is S.RightBracket r →
       SpellsJudgement K.Cat (l ∷ t ∷ r ∷ []) (J.ListCat (placed x t) (Written x) 0 l.place)
@@ -196,30 +131,31 @@ pub data SpellsJudgement : Keyword → Tokens → Judgement → Type 0 where
       Is S.RightBrace c →
       SpellsJudgement K.Cat (l ∷ t ∷ r ∷ b ∷ n ∷ c ∷ []) (J.ListCat (placed x t) (Written x) k l.place)
   function : {ts us : Tokens} {c : SourceToken} {ns : List PlacedName} {a : Term} →
-      SpellsPlaced ts ns (c ∷ us) → Is S.Colon c → SpellsTerm exp us a [] →
+      Spells (listed S.Comma placed_name) ts ns (c ∷ us) → Is S.Colon c → Spells (term exp) us a [] →
       SpellsJudgement K.Fun ts (J.Fun ns a)
   flag : {x : List ℕ} {t e u : SourceToken} {v : Setting} → IsNamed x t → Is S.Equals e →
       SpellsSetting u v → SpellsJudgement K.Flags (t ∷ e ∷ u ∷ []) (J.Flag (placed x t) v)
   lincat : {ts us : Tokens} {e : SourceToken} {ns : List PlacedName} {a : Term} →
-      SpellsCategories ts ns (e ∷ us) → Is S.Equals e → SpellsTerm exp us a [] →
+      Spells (listed S.Comma category_name) ts ns (e ∷ us) → Is S.Equals e → Spells (term exp) us a [] →
       SpellsJudgement K.Lincat ts (J.Lincat ns a)
-  linearization : {ts us vs : Tokens} {e : SourceToken} {ns : List PlacedName} {bs : List Bind} {a : Term} {k : Keyword} {form : List PlacedName →
-      List Bind → Term → Judgement} → Linearization k form → SpellsCategories ts ns us →
-      SpellsParameters us bs (e ∷ vs) → Is S.Equals e → SpellsTerm exp vs a [] →
+  linearization : {ts us vs : Tokens} {e : SourceToken} {ns : List PlacedName} {bs : List Bind}
+      {a : Term} {k : Keyword} {form : List PlacedName →
+      List Bind → Term → Judgement} → Linearization k form → Spells (listed S.Comma category_name) ts ns us →
+      Spells (many bind) us bs (e ∷ vs) → Is S.Equals e → Spells (term exp) vs a [] →
       SpellsJudgement k ts (form ns bs a)
   bare_parameter : {x : List ℕ} {t : SourceToken} → IsNamed x t →
       SpellsJudgement K.Param (t ∷ []) (J.ParamName (placed x t))
   parameter_type : {x : List ℕ} {t e : SourceToken} {ts : Tokens} {cs : List Constructor} →
-      IsNamed x t → Is S.Equals e → SpellsConstructors ts cs [] →
+      IsNamed x t → Is S.Equals e → Spells (listed S.Bar constructor) ts cs [] →
       SpellsJudgement K.Param (t ∷ e ∷ ts) (J.Param (placed x t) cs)
   declared_oper : {ts us : Tokens} {c : SourceToken} {ns : List PlacedName} {a : Term} →
-      SpellsPlaced ts ns (c ∷ us) → Is S.Colon c → SpellsTerm exp us a [] →
+      Spells (listed S.Comma placed_name) ts ns (c ∷ us) → Is S.Colon c → Spells (term exp) us a [] →
       SpellsJudgement K.Oper ts (J.OperType ns a)
   typed_oper : {ts us vs : Tokens} {c e : SourceToken} {ns : List PlacedName} {a : Term} {d : Definition} →
-      SpellsPlaced ts ns (c ∷ us) → Is S.Colon c → SpellsTerm exp us a (e ∷ vs) → Is S.Equals e →
+      Spells (listed S.Comma placed_name) ts ns (c ∷ us) → Is S.Colon c → Spells (term exp) us a (e ∷ vs) → Is S.Equals e →
       SpellsDefinition vs d → SpellsJudgement K.Oper ts (J.OperTyped ns a d)
   oper : {ts us vs : Tokens} {e : SourceToken} {ns : List PlacedName} {bs : List Bind} {d : Definition} →
-      SpellsPlaced ts ns us → SpellsParameters us bs (e ∷ vs) → Is S.Equals e →
+      Spells (listed S.Comma placed_name) ts ns us → Spells (many bind) us bs (e ∷ vs) → Is S.Equals e →
       SpellsDefinition vs d → SpellsJudgement K.Oper ts (J.Oper ns bs d)
 
 -- the keyword of a reserved word
@@ -246,43 +182,10 @@ pub data SpellsSlices : Option Keyword → List Tokens → List Judgement → Ty
   no_slice : {before : Option Keyword} → SpellsSlices before [] []
   empty_slice : {before : Option Keyword} {ss : List Tokens} {js : List Judgement} →
       SpellsSlices before ss js → SpellsSlices before ([] ∷ ss) js
-  slice : {before : Option Keyword} {k : Keyword} {t : SourceToken} {ts : Tokens} {ss : List Tokens} {j : Judgement} {js : List Judgement} →
+  slice : {before : Option Keyword} {k : Keyword} {t : SourceToken} {ts : Tokens} {ss : List Tokens}
+      {j : Judgement} {js : List Judgement} →
       SpellsSlice before (t ∷ ts) k j → SpellsSlices (Some k) ss js →
       SpellsSlices before ((t ∷ ts) ∷ ss) (j ∷ js)
-
--- a module that is inherited
-pub data SpellsInherited : Tokens → Inherited → Tokens → Type 0 where
-  whole : {x : List ℕ} {t : SourceToken} {ts : Tokens} → IsNamed x t →
-      SpellsInherited (t ∷ ts) (Whole (placed x t)) ts
-  only : {x : List ℕ} {ns : List PlacedName} {t l r : SourceToken} {ts rest : Tokens} → IsNamed x t →
-      Is S.LeftBracket l → SpellsPlaced ts ns (r ∷ rest) → Is S.RightBracket r →
-      SpellsInherited (t ∷ l ∷ ts) (Only (placed x t) ns) rest
-  except : {x : List ℕ} {ns : List PlacedName} {t m l r : SourceToken} {ts rest : Tokens} →
-      IsNamed x t → Is S.Minus m → Is S.LeftBracket l → SpellsPlaced ts ns (r ∷ rest) →
-      Is S.RightBracket r → SpellsInherited (t ∷ m ∷ l ∷ ts) (Except (placed x t) ns) rest
-
-abbrev pub SpellsInheritedList : Tokens → List Inherited → Tokens → Type 0
-SpellsInheritedList = Commas SpellsInherited
-
--- a module that is opened
-pub data SpellsOpened : Tokens → Opened → Tokens → Type 0 where
-  plainly : {x : List ℕ} {t : SourceToken} {ts : Tokens} → IsNamed x t →
-      SpellsOpened (t ∷ ts) (Plain (placed x t)) ts
-  by_alias : {q x : List ℕ} {l s e t r : SourceToken} {ts : Tokens} → Is S.LeftParenthesis l →
-      IsNamed q s → Is S.Equals e → IsNamed x t → Is S.RightParenthesis r →
-      SpellsOpened (l ∷ s ∷ e ∷ t ∷ r ∷ ts) (Qualified (placed q s) (placed x t)) ts
-
-abbrev pub SpellsOpenedList : Tokens → List Opened → Tokens → Type 0
-SpellsOpenedList = Commas SpellsOpened
-
--- (I = J), and one or more with commas between
-pub data SpellsSubstitution : Tokens → Substitution → Tokens → Type 0 where
-  substitution : {i j : List ℕ} {l s e t r : SourceToken} {ts : Tokens} → Is S.LeftParenthesis l →
-      IsNamed i s → Is S.Equals e → IsNamed j t → Is S.RightParenthesis r →
-      SpellsSubstitution (l ∷ s ∷ e ∷ t ∷ r ∷ ts) (record { interface = placed i s; instance = placed j t }) ts
-
-abbrev pub SpellsSubstitutions : Tokens → List Substitution → Tokens → Type 0
-SpellsSubstitutions = Commas SpellsSubstitution
 
 -- a body: what it opens, and its slices in braces
 pub data SpellsBody : Tokens → Body → Tokens → Type 0 where
@@ -290,54 +193,51 @@ pub data SpellsBody : Tokens → Body → Tokens → Type 0 where
       Is S.LeftBrace l → slices_of ts ≡ Some (ss, rest) → SpellsSlices None ss js →
       SpellsBody (l ∷ ts) (record { opened = []; judgements = js }) rest
   opening_body : {ts us rest : Tokens} {o i l : SourceToken} {os : List Opened} {ss : List Tokens} {js : List Judgement} →
-      IsReserved W.OpenWord o → SpellsOpenedList ts os (i ∷ l ∷ us) → IsReserved W.InWord i →
+      IsReserved W.OpenWord o → Spells (listed S.Comma opened) ts os (i ∷ l ∷ us) → IsReserved W.InWord i →
       Is S.LeftBrace l → slices_of us ≡ Some (ss, rest) → SpellsSlices None ss js →
       SpellsBody (o ∷ ts) (record { opened = os; judgements = js }) rest
 
--- the kinds of modules that name no other
+-- the kinds of modules that name no other, and those that name one after of
 pub data PlainKind : Word → (PlacedName → Header) → Type 0 where
   an_abstract : PlainKind W.Abstract H.Abstract
   a_resource : PlainKind W.Resource H.Resource
   an_interface : PlainKind W.Interface H.Interface
 
+pub data KindOf : Word → (PlacedName → PlacedName → Header) → Type 0 where
+  an_instance : KindOf W.Instance H.Instance
+  a_concrete : KindOf W.Concrete H.Concrete
+
 -- the kind and the name of a module
 pub data SpellsHeader : Tokens → Header → Tokens → Type 0 where
-  plain_module : {a : List ℕ} {k t : SourceToken} {ts : Tokens} {w : Word} {form : PlacedName →
-      Header} → PlainKind w form → IsReserved w k → IsNamed a t →
-      SpellsHeader (k ∷ t ∷ ts) (form (placed a t)) ts
-  instance_module : {a b : List ℕ} {k t o u : SourceToken} {ts : Tokens} → IsReserved W.Instance k →
-      IsNamed a t → IsReserved W.Of o → IsNamed b u →
-      SpellsHeader (k ∷ t ∷ o ∷ u ∷ ts) (H.Instance (placed a t) (placed b u)) ts
-  concrete_module : {a b : List ℕ} {k t o u : SourceToken} {ts : Tokens} → IsReserved W.Concrete k →
-      IsNamed a t → IsReserved W.Of o → IsNamed b u →
-      SpellsHeader (k ∷ t ∷ o ∷ u ∷ ts) (H.Concrete (placed a t) (placed b u)) ts
-  incomplete_module : {a b : List ℕ} {i k t o u : SourceToken} {ts : Tokens} →
-      IsReserved W.Incomplete i → IsReserved W.Concrete k → IsNamed a t → IsReserved W.Of o →
-      IsNamed b u →
-      SpellsHeader (i ∷ k ∷ t ∷ o ∷ u ∷ ts) (H.Incomplete (placed a t) (placed b u)) ts
+  plain_module : {x : List ℕ} {k t : SourceToken} {ts : Tokens} {w : Word} {form : PlacedName → Header} →
+      PlainKind w form → IsReserved w k → IsNamed x t → SpellsHeader (k ∷ t ∷ ts) (form (placed x t)) ts
+  module_of : {x y : List ℕ} {k t o u : SourceToken} {ts : Tokens} {w : Word} {form : PlacedName → PlacedName → Header} →
+      KindOf w form → IsReserved w k → IsNamed x t → IsReserved W.Of o → IsNamed y u →
+      SpellsHeader (k ∷ t ∷ o ∷ u ∷ ts) (form (placed x t) (placed y u)) ts
+  incomplete_module : {x y : List ℕ} {i k t o u : SourceToken} {ts : Tokens} → IsReserved W.Incomplete i →
+      IsReserved W.Concrete k → IsNamed x t → IsReserved W.Of o → IsNamed y u →
+      SpellsHeader (i ∷ k ∷ t ∷ o ∷ u ∷ ts) (H.Incomplete (placed x t) (placed y u)) ts
 
--- a functor with its substitutions, and a body or none
-pub data SpellsWith : Tokens → Inherited → List Substitution → Option Body → Tokens → Type 0 where
-  without_body : {ts us rest : Tokens} {w : SourceToken} {f : Inherited} {ss : List Substitution} →
-      SpellsInherited ts f (w ∷ us) → IsReserved W.With w → SpellsSubstitutions us ss rest →
-      SpellsWith ts f ss None rest
-  with_body : {ts us vs rest : Tokens} {w s : SourceToken} {f : Inherited} {ss : List Substitution} {b : Body} →
-      SpellsInherited ts f (w ∷ us) → IsReserved W.With w → SpellsSubstitutions us ss (s ∷ vs) →
-      Is S.DoubleStar s → SpellsBody vs b rest → SpellsWith ts f ss (Some b) rest
+-- what is inherited, with ** after it, or nothing
+pub data SpellsBefore : Tokens → List Inherited → Tokens → Type 0 where
+  nothing_before : {ts : Tokens} → SpellsBefore ts [] ts
+  inherited_before : {ts rest : Tokens} {s : SourceToken} {hs : List Inherited} →
+      Spells (listed S.Comma inherited) ts hs (s ∷ rest) → Is S.DoubleStar s → SpellsBefore ts hs rest
 
 -- what follows the = of a module
 pub data SpellsRest : Tokens → Rest → Tokens → Type 0 where
-  body_alone : {ts rest : Tokens} {b : Body} → SpellsBody ts b rest → SpellsRest ts (Own [] b) rest
-  body_after : {ts us rest : Tokens} {s : SourceToken} {hs : List Inherited} {b : Body} →
-      SpellsInheritedList ts hs (s ∷ us) → Is S.DoubleStar s → SpellsBody us b rest →
-      SpellsRest ts (Own hs b) rest
-  inherited_alone : {ts rest : Tokens} {hs : List Inherited} → SpellsInheritedList ts hs rest →
+  own_body : {ts us rest : Tokens} {hs : List Inherited} {b : Body} → SpellsBefore ts hs us →
+      SpellsBody us b rest → SpellsRest ts (Own hs b) rest
+  inherited_alone : {ts rest : Tokens} {hs : List Inherited} → Spells (listed S.Comma inherited) ts hs rest →
       SpellsRest ts (Inherits hs) rest
-  functor : {ts rest : Tokens} {f : Inherited} {ss : List Substitution} {b : Option Body} →
-      SpellsWith ts f ss b rest → SpellsRest ts (With [] f ss b) rest
-  functor_after : {ts us rest : Tokens} {s : SourceToken} {hs : List Inherited} {f : Inherited} {ss : List Substitution} {b : Option Body} →
-      SpellsInheritedList ts hs (s ∷ us) → Is S.DoubleStar s → SpellsWith us f ss b rest →
-      SpellsRest ts (With hs f ss b) rest
+  functor : {ts us vs rest : Tokens} {w : SourceToken} {hs : List Inherited} {f : Inherited} {ss : List Substitution} →
+      SpellsBefore ts hs us → Spells inherited us f (w ∷ vs) → IsReserved W.With w →
+      Spells (listed S.Comma substitution) vs ss rest → SpellsRest ts (With hs f ss None) rest
+  functor_with_body : {ts us vs ws rest : Tokens} {w s : SourceToken} {hs : List Inherited}
+      {f : Inherited} {ss : List Substitution} {b : Body} →
+      SpellsBefore ts hs us → Spells inherited us f (w ∷ vs) → IsReserved W.With w →
+      Spells (listed S.Comma substitution) vs ss (s ∷ ws) → Is S.DoubleStar s → SpellsBody ws b rest →
+      SpellsRest ts (With hs f ss (Some b)) rest
 
 -- nothing is left but a semicolon
 pub data AtEnd : Tokens → Type 0 where

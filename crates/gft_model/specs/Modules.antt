@@ -1,5 +1,5 @@
 -- Which judgements a module has, and which a name in it means.
-use Rattle.std.specs.Prelude.{◌≡◌, ℕ, List, [], ◌∷◌, ◌++◌, map, Bool, true, false, not, bytes_eq, codes, Contains, Option, Some, None, slice_get, if◌then◌else◌}
+use Rattle.std.specs.Prelude.{◌≡◌, ℕ, List, [], ◌∷◌, ◌++◌, map, flat_map, Bool, true, false, not, bytes_eq, codes, Contains, Option, Some, None, slice_get, if◌then◌else◌}
 use Rattle.std.specs.List.{list_any}
 use Rattle.gft_syntax.specs.declared.judgement.Judgement.{Judgement}
 use Rattle.gft_syntax.specs.declared.judgement.Judgement.TheVariants as J
@@ -64,6 +64,27 @@ lets_through (Whole n) x = true
 lets_through (Only n xs) x = is_listed x xs
 lets_through (Except n xs) x = not (is_listed x xs)
 
+-- the modules that a module names, in the order in which they are loaded: its abstract module or interface,
+-- what it inherits, its functor, each interface with its instance, what it opens
+abbrev pub named_by_header : Header → List (List ℕ)
+named_by_header (Instance n i) = i.name ∷ []
+named_by_header (Concrete n a) = a.name ∷ []
+named_by_header (Incomplete n a) = a.name ∷ []
+named_by_header h = []
+
+abbrev pub named_by_rest : Rest → List (List ℕ)
+named_by_rest (Own hs b) = map inherited_name hs
+named_by_rest (Inherits hs) = map inherited_name hs
+named_by_rest (With hs f ss b) =
+    map inherited_name hs ++ inherited_name f ∷ flat_map (λ s. s.interface.name ∷ s.instance.name ∷ []) ss
+
+abbrev pub opened_name : Opened → List ℕ
+opened_name (Plain n) = n.name
+opened_name (Qualified q n) = n.name
+
+abbrev pub named_modules : Module → List (List ℕ)
+named_modules m = named_by_header m.header ++ named_by_rest m.rest ++ map opened_name (opened_of m)
+
 -- the names that a judgement declares; a flag is no name
 abbrev pub names_of : List PlacedName → List (List ℕ)
 names_of ns = map (λ n. n.name) ns
@@ -120,6 +141,10 @@ pub data Written : Type 0 where
   bare : List ℕ → Written
   qualified : List ℕ → List ℕ → Written
 
+abbrev pub name_of : Written → List ℕ
+name_of (bare x) = x
+name_of (qualified Q x) = x
+
 module _ (mods : List Module) where
   -- the module of the name
   abbrev pub Is : List ℕ → Module → Type 0
@@ -175,25 +200,27 @@ module _ (mods : List Module) where
     from_named : {M Q N x : List ℕ} {m : Module} {d : Declared} →
         Is M m → OpensAs m Q N → HasNameable N x d → SeesQualified M Q x d
 
-  -- what an instance of a with gives for a constant of its interface: the first whose interface has it
-  pub data Argument : List Substitution → Declared → Declared → Type 0 where
+  -- what the instances of a with give for a constant of an interface under a name: the first interface that
+  -- has it counts
+  pub data Argument : List Substitution → List ℕ → Declared → Declared → Type 0 where
     here : {s : Substitution} {ss : List Substitution} {y : List ℕ} {d e : Declared} →
-        HasNameable s.interface.name y d → HasNameable s.instance.name y e → Argument (s ∷ ss) d e
-    later : {s : Substitution} {ss : List Substitution} {d e : Declared} →
-        ((y : List ℕ) → ¬ (HasNameable s.interface.name y d)) → Argument ss d e → Argument (s ∷ ss) d e
+        HasNameable s.interface.name y d → HasNameable s.instance.name y e → Argument (s ∷ ss) y d e
+    later : {s : Substitution} {ss : List Substitution} {y : List ℕ} {d e : Declared} →
+        ¬ (HasNameable s.interface.name y d) → Argument ss y d e → Argument (s ∷ ss) y d e
 
-  -- what stands for a judgement in the copies that a module makes: an instance's own for that of its
-  -- interface; in a with module that of the instance for the interface's, and the copy for the functor's
-  pub data Replaces : List ℕ → Declared → Declared → Type 0 where
+  -- what stands for a judgement under one of its names in the copies that a module makes: an instance's own
+  -- for that of its interface; in a with module that of the instance for the interface's, and the copy for
+  -- the functor's. A parameter type is copied whole where the restriction lets one of its names through
+  pub data Replaces : List ℕ → List ℕ → Declared → Declared → Type 0 where
     by_instance : {M y : List ℕ} {m : Module} {n i : PlacedName} {d e : Declared} →
-        Is M m → m.header ≡ Instance n i → HasNameable i.name y d → HasNameable M y e → Replaces M d e
-    by_argument : {M : List ℕ} {m : Module} {hs : List Inherited} {f : Inherited}
+        Is M m → m.header ≡ Instance n i → HasNameable i.name y d → HasNameable M y e → Replaces M y d e
+    by_argument : {M y : List ℕ} {m : Module} {hs : List Inherited} {f : Inherited}
         {ss : List Substitution} {b : Option Body} {d e : Declared} →
-        Is M m → m.rest ≡ With hs f ss b → Argument ss d e → Replaces M d e
-    by_copy : {M y : List ℕ} {m : Module} {hs : List Inherited} {f : Inherited}
-        {ss : List Substitution} {b : Option Body} {d : Declared} →
-        Is M m → m.rest ≡ With hs f ss b → lets_through f y ≡ true →
-        HasNameable (inherited_name f) y d → Replaces M d (copy M d)
+        Is M m → m.rest ≡ With hs f ss b → Argument ss y d e → Replaces M y d e
+    by_copy : {M y z : List ℕ} {m : Module} {hs : List Inherited} {f : Inherited}
+        {ss : List Substitution} {b : Option Body} {d : Declared} {j : Judgement} →
+        Is M m → m.rest ≡ With hs f ss b → Writes d j → Has (inherited_name f) z d → lets_through f z ≡ true →
+        Contains (declared_names j) y → main_name j y ≡ main_name j z → Replaces M y d (copy M d)
 
   -- what a name in a judgement means: in an own one by the module where it is written, in a copy what
   -- stands for what it meant, where there is something, and else the same
@@ -202,6 +229,6 @@ module _ (mods : List Module) where
     own_qualified : {M Q x : List ℕ} (k : ℕ) {d : Declared} →
         SeesQualified M Q x d → Means (own M k) (qualified Q x) d
     replaced : {M : List ℕ} {j d e : Declared} {w : Written} →
-        Means j w d → Replaces M d e → Means (copy M j) w e
+        Means j w d → Replaces M (name_of w) d e → Means (copy M j) w e
     remains : {M : List ℕ} {j d : Declared} {w : Written} →
-        Means j w d → ((e : Declared) → ¬ (Replaces M d e)) → Means (copy M j) w d
+        Means j w d → ((e : Declared) → ¬ (Replaces M (name_of w) d e)) → Means (copy M j) w d

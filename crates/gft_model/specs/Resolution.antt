@@ -24,11 +24,11 @@ use Rattle.gft_syntax.specs.declared.term.Term.TheOpen as T
 use Rattle.gft_syntax.specs.declared.term.Term.TheFolds.{para-Term}
 use Rattle.gft_model.specs.JudgementTyping.{list_name}
 
--- what names mean: a bare one, one with a module's name before it, and which are constructors
+-- what names mean: a bare one, one with a module's name before it, and which bare ones are constructors
 pub record Names : Type 0 where
   pub bare : List ℕ → Option Whole
   pub qualified : List ℕ → List ℕ → Option Whole
-  pub is_constructor : Whole → Bool
+  pub is_constructor : List ℕ → Bool
 
 -- the local variables
 abbrev pub Locals : Type 0
@@ -53,24 +53,24 @@ resolved_name n (R.Found o) xs = R.Found o
 resolved_name n (R.Whole w) xs = R.Whole w
 
 -- a name of a pattern without arguments: only a constructor is no variable
-abbrev pub only_constructor : Names → List ℕ → Option Whole → Reference
-only_constructor n x None = R.Written x
-only_constructor n x (Some w) = if n.is_constructor w then R.Whole w else R.Written x
-
 abbrev pub resolved_leaf : Names → Locals → Reference → Reference
-resolved_leaf n xs (R.Written x) = if is_local x xs then R.Written x else only_constructor n x (n.bare x)
+resolved_leaf n xs (R.Written x) = if n.is_constructor x then resolved_name n (R.Written x) xs else R.Written x
 resolved_leaf n xs (R.Found o) = R.Found o
 resolved_leaf n xs (R.Whole w) = R.Whole w
 
+-- Q.x, where Q is no variable
+abbrev pub resolved_qualified : Names → Locals → List ℕ → List ℕ → Option Whole
+resolved_qualified n xs Q x = if is_local Q xs then None else n.qualified Q x
+
 -- a constructor with arguments or with a module's name
-abbrev pub resolved_head : Names → Option (List ℕ) → Reference → Reference
-resolved_head n None (R.Written x) = whole_or (R.Written x) (n.bare x)
-resolved_head n (Some Q) (R.Written x) = whole_or (R.Written x) (n.qualified Q x)
-resolved_head n m (R.Found o) = R.Found o
-resolved_head n m (R.Whole w) = R.Whole w
+abbrev pub resolved_head : Names → Locals → Option (List ℕ) → Reference → Reference
+resolved_head n xs None r = resolved_name n r xs
+resolved_head n xs (Some Q) (R.Written x) = whole_or (R.Written x) (resolved_qualified n xs Q x)
+resolved_head n xs (Some Q) (R.Found o) = R.Found o
+resolved_head n xs (Some Q) (R.Whole w) = R.Whole w
 
 abbrev pub pattern_step : Names → Locals → P.Pattern-F Pattern → Pattern
-pattern_step n xs (P.Con m r ps place) = roll-Pattern (P.Con m (resolved_head n m r) ps place)
+pattern_step n xs (P.Con m r ps place) = roll-Pattern (P.Con m (resolved_head n xs m r) ps place)
 pattern_step n xs (P.Name r place) = roll-Pattern (P.Name (resolved_leaf n xs r) place)
 pattern_step n xs d = roll-Pattern d
 
@@ -128,7 +128,7 @@ resolved_case n xs c =
 
 -- Q.x is a whole name where Q is no variable and is a module or alias; else a projection
 abbrev pub qualified_name : Names → Locals → T.Term-F Term → List ℕ → Option Whole
-qualified_name n xs (T.Var (R.Written Q) place) x = if is_local Q xs then None else n.qualified Q x
+qualified_name n xs (T.Var (R.Written Q) place) x = resolved_qualified n xs Q x
 qualified_name n xs d x = None
 
 abbrev pub projected : Option Whole → Term → List ℕ → Place → Term

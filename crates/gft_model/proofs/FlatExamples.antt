@@ -1,0 +1,201 @@
+-- A worked example of a resolved grammar: that of resource R2 = {oper mk : Str = "two" ;} alone.
+use Rattle.std.proofs.Common.{◌≡◌, ap, sym, ◌∙◌, refl, ℕ, zero, suc, Bool, true, false, List, [], ◌∷◌, length, Option, Some, None, subst, arith}
+use Rattle.std.proofs.lemmas.Slice.Eq.{bytes_eq-Decides}
+use Rattle.std.specs.Prelude.{codes, bytes_eq, Contains, slice_get, if◌then◌else◌}
+use Rattle.gft_core.specs.declared.place.Place.{Place}
+use Rattle.gft_syntax.specs.declared.flat.Flat.{Flat}
+use Rattle.gft_syntax.specs.declared.flat.FlatJudgement.{FlatJudgement}
+use Rattle.gft_syntax.specs.declared.judgement.Definition.TheVariants as D
+use Rattle.gft_syntax.specs.declared.judgement.Judgement.{Judgement}
+use Rattle.gft_syntax.specs.declared.judgement.Judgement.TheVariants as J
+use Rattle.gft_syntax.specs.declared.module.Header.TheVariants.{Abstract}
+use Rattle.gft_syntax.specs.declared.module.Module.{Module}
+use Rattle.gft_syntax.specs.declared.reference.PlacedName.{PlacedName}
+use Rattle.gft_syntax.specs.declared.reference.Whole.{Whole}
+use Rattle.gft_syntax.specs.declared.term.Term.{Term}
+use Rattle.gft_model.specs.Modules.{Is, Has, declares, inherits, keeps, instantiates, HasNameable, at_home, from_opened, from_named, plainly, by_alias, by_name, Means, own_name, own_qualified, Declared, own, Writes, own_text, bare, qualified, inherited_of, opened_of, judgements_of, declared_names, named_modules, main_name}
+use Rattle.gft_model.specs.Resolution.{Names, resolved_judgement}
+use Rattle.gft_model.specs.Flats.{whole_of, alone, part_of, IsConstructor, Part, parameters, opers, RestsOn, itself, through, IsMeaning, AreMeanings, IsEntry, HasEntry, HasSomewhere, of_none, IsFlat}
+use Rattle.gft_model.proofs.ModuleExamples.{resource_of_mk}
+
+-- what stands in a list of one
+one_of : {A : Type 0} {x y : A} → Contains (x ∷ []) y → x ≡ y
+one_of (zero, b, h) = h
+one_of (suc k, b, h) = absurd (omega (arith, b))
+
+-- functions that agree, and options that are the same values
+agree : {A B : Type 0} {f g : A → B} → ((x : A) → f x ≡ g x) → f ≡ g
+agree h = λ i x. h x i
+
+same_option : {A : Type 0} (o q : Option A) → ((a : A) → o ≡ Some a → q ≡ Some a) → ((a : A) → q ≡ Some a → o ≡ Some a) → o ≡ q
+same_option None None h k = refl
+same_option None (Some a) h k = k a refl
+same_option (Some a) q h k = sym (h a refl)
+
+same_test : (b c : Bool) → (b ≡ true → c ≡ true) → (c ≡ true → b ≡ true) → b ≡ c
+same_test true c h k = sym (h refl)
+same_test false true h k = k refl
+same_test false false h k = refl
+
+module _ (p : Place) (T e : Term) where
+  abbrev r2 : Module
+  r2 = resource_of_mk p T e (codes "R2")
+
+  abbrev mods : List Module
+  mods = r2 ∷ []
+
+  abbrev mk : List ℕ
+  mk = codes "mk"
+
+  abbrev text : Judgement
+  text = J.OperTyped (record { name = mk; place = p } ∷ []) T (D.Term e)
+
+  is_r2 : {m : Module} → Is mods (codes "R2") m → m ≡ r2
+  is_r2 {m} is = let same : Some r2 ≡ Some m = is in cc
+
+  own_only : (k : ℕ) {j : Judgement} → slice_get (judgements_of r2) k ≡ Some j → (k ≡ 0) × (text ≡ j)
+  own_only zero {j} g = let same : text ≡ j = cc in (refl, same)
+  own_only (suc k) g = cc
+
+  -- R2 has mk and nothing else
+  had : {x : List ℕ} {d : Declared} → Has mods (codes "R2") x d → (mk ≡ x) × (d ≡ own (codes "R2") 0)
+  had (declares {x = x} k {j = j} is g c) =
+      let only = own_only k (subst (λ m. slice_get (judgements_of m) k ≡ Some j) (is_r2 is) g) in
+      (one_of (subst (λ i. Contains (declared_names i) x) (sym only.1) c), ap (own (codes "R2")) only.0)
+  had (inherits is (k, b, f) l h) = absurd (let none = ap (λ m. length (inherited_of m.rest)) (is_r2 is) in omega (arith, b, none))
+  had (keeps is f h w u o) = let same = ap (λ m. m.header) (is_r2 is) in cc
+  had (instantiates is f l h) = let same = ap (λ m. m.rest) (is_r2 is) in cc
+
+  has_mk : HasNameable mods (codes "R2") mk (own (codes "R2") 0)
+  has_mk = record { has = declares 0 refl refl (0, omega arith, refl); text = text; writes = own_text 0 refl refl; nameable = refl }
+
+  -- what names mean there
+  meant : {x : List ℕ} {d : Declared} → Means mods (own (codes "R2") 0) (bare x) d → (mk ≡ x) × (d ≡ own (codes "R2") 0)
+  meant (own_name k (at_home h)) = had h.has
+  meant (own_name k (from_opened is n (i, b, f) h)) = absurd (let none = ap (λ m. length (opened_of m)) (is_r2 is) in omega (arith, b, none))
+
+  unqualified : {Q x : List ℕ} {d : Declared} → Means mods (own (codes "R2") 0) (qualified Q x) d → ⊥
+  unqualified (own_qualified k (from_named is (plainly (i, b, f)) h)) = let none = ap (λ m. length (opened_of m)) (is_r2 is) in omega (arith, b, none)
+  unqualified (own_qualified k (from_named is (by_alias (i, b, f)) h)) = let none = ap (λ m. length (opened_of m)) (is_r2 is) in omega (arith, b, none)
+  unqualified (own_qualified k (from_named is (by_name (i, b, f)) h)) = let none = ap (λ m. length (opened_of m)) (is_r2 is) in omega (arith, b, none)
+
+  abbrev names : Names
+  names = record {
+    bare = λ x. if bytes_eq mk x then Some (whole_of mk (own (codes "R2") 0)) else None;
+    qualified = λ Q x. None;
+    is_constructor = λ x. false;
+  }
+
+  abbrev here : Declared
+  here = own (codes "R2") 0
+
+  written_only : {j : Judgement} → Writes mods here j → text ≡ j
+  written_only {j} (own_text k is g) =
+      (own_only 0 (subst (λ m. slice_get (judgements_of m) 0 ≡ Some j) (is_r2 is) g)).1
+
+  same_whole : {x : List ℕ} {d : Declared} → mk ≡ x → d ≡ here → whole_of mk here ≡ whole_of x d
+  same_whole {x} h k = ap (λ y. whole_of y here) h ∙ ap (whole_of x) (sym k)
+
+  bare_to : (x : List ℕ) (w : Whole) (b : Bool) → bytes_eq mk x ≡ b → (if b then Some (whole_of mk here) else None) ≡ Some w →
+      IsMeaning mods here (bare x) w
+  bare_to x w true h k =
+      let same = (bytes_eq-Decides mk x).0 h in
+      let value : whole_of mk here ≡ w = cc in
+      record {
+        some_meaning = here;
+        means = own_name 0 (at_home (subst (λ y. HasNameable mods (codes "R2") y here) same has_mk));
+        only_one = λ d m. sym value ∙ same_whole (meant m).0 (meant m).1;
+      }
+  bare_to x w false h k = cc
+
+  bare_from : (x : List ℕ) (w : Whole) → IsMeaning mods here (bare x) w → (if bytes_eq mk x then Some (whole_of mk here) else None) ≡ Some w
+  bare_from x w h =
+      let m = meant h.means in
+      ap (λ b. if b then Some (whole_of mk here) else None) (ap (bytes_eq mk) (sym m.0))
+      ∙ ap Some (same_whole m.0 m.1 ∙ sym (h.only_one h.some_meaning h.means))
+
+  no_constructor : (x : List ℕ) → ((d : Declared) × (j : Judgement) × Means mods here (bare x) d × Writes mods d j × IsConstructor j x) → false ≡ true
+  no_constructor x (d, j, m, w, (n, cs, c, k)) =
+      let same : text ≡ J.Param n cs = written_only (subst (λ f. Writes mods f j) (meant m).1 w) ∙ c in cc
+
+  meanings : AreMeanings mods here names
+  meanings = record {
+    of_bare = λ x w. (bare_to x w (bytes_eq mk x) refl, bare_from x w);
+    of_qualified = λ Q x w. (λ h. cc, λ h. absurd (unqualified h.means));
+    of_constructors = λ x. (λ h. cc, no_constructor x);
+  }
+
+  names_once : (n : Names) → AreMeanings mods here n → n ≡ names
+  names_once n m =
+      let b : n.bare ≡ names.bare =
+      agree (λ x. same_option (n.bare x) (names.bare x) (λ w h. bare_from x w ((m.of_bare x w).0 h)) (λ w h. (m.of_bare x w).1 (bare_to x w (bytes_eq mk x) refl h))) in
+      let q : n.qualified ≡ names.qualified =
+      agree (λ Q. agree (λ x. same_option (n.qualified Q x) None (λ w h. absurd (unqualified ((m.of_qualified Q x w).0 h).means)) (λ w h. cc))) in
+      let c : n.is_constructor ≡ names.is_constructor =
+      agree (λ x. same_test (n.is_constructor x) false (λ h. no_constructor x ((m.of_constructors x).0 h)) (λ h. cc)) in
+      λ i. record { bare = b i; qualified = q i; is_constructor = c i }
+
+  abbrev entry : FlatJudgement
+  entry = record { whole = whole_of mk here; judgement = resolved_judgement names (alone mk text) }
+
+  entry_of_mk : IsEntry mods mk here entry
+  entry_of_mk = record { text = text; writes = own_text 0 refl refl; names = names; meanings = meanings; whole = refl; judgement = refl }
+
+  rests : {M : List ℕ} → RestsOn mods (codes "R2") M → codes "R2" ≡ M
+  rests itself = refl
+  rests (through is (k, b, f) r) = absurd (let none = ap (λ m. length (named_modules m)) (is_r2 is) in omega (arith, b, none))
+
+  only_entry : {g : Part} {M : List ℕ} {e' : FlatJudgement} → codes "R2" ≡ M → HasEntry mods g M e' → (g ≡ opers) × (e' ≡ entry)
+  only_entry {g} {e' = f} same (x, d, j, h, i) =
+      let hd = had (subst (λ N. Has mods N x d) (sym same) h.has) in
+      let is = written_only (subst (λ c. Writes mods c j) hd.1 h.writes) in
+      let part : Some opers ≡ Some g = ap (part_of x) is ∙ h.part in
+      let main : mk ≡ main_name j x = hd.0 ∙ ap (λ k. main_name k x) is in
+      let whole : f.whole ≡ entry.whole = i.whole ∙ sym (same_whole main hd.1) in
+      let judgement : f.judgement ≡ entry.judgement =
+      i.judgement ∙ ap (λ n. resolved_judgement n (alone (main_name j x) i.text)) (names_once i.names (subst (λ c. AreMeanings mods c i.names) hd.1 i.meanings))
+      ∙ ap (λ y. resolved_judgement names (alone y i.text)) (sym main)
+      ∙ ap (λ t. resolved_judgement names (alone mk t)) (sym (written_only (subst (λ c. Writes mods c i.text) hd.1 i.writes))) in
+      (cc, λ k. record { whole = whole k; judgement = judgement k })
+
+  somewhere : {g : Part} {f : FlatJudgement} → HasSomewhere mods g (codes "R2" ∷ []) f → (g ≡ opers) × (f ≡ entry)
+  somewhere (C, M, c, r, h) = only_entry (rests (subst (λ N. RestsOn mods N M) (sym (one_of c)) r)) h
+
+  abbrev flat : Flat
+  flat = record { name = None; start = None; cats = []; funs = []; params = []; opers = entry ∷ []; concretes = []; typed = [] }
+
+  no_abstract : (m : Module) (n : PlacedName) → Contains (codes "R2" ∷ []) n.name → Is mods n.name m → ¬ (m.header ≡ Abstract n)
+  no_abstract m n c i h =
+      let header = ap (λ (k : Module). k.header) (is_r2 (subst (λ x. Is mods x m) (sym (one_of c)) i)) in cc
+
+  no_parameter : {f : FlatJudgement} → HasSomewhere mods parameters (codes "R2" ∷ []) f → Contains [] f
+  no_parameter h = let wrong : parameters ≡ opers = (somewhere h).0 in cc
+
+  has_entry : HasSomewhere mods opers (codes "R2" ∷ []) entry
+  has_entry = (
+    codes "R2",
+    codes "R2",
+    (0, omega arith, refl),
+    itself,
+    (mk, here, text, record { has = has_mk.has; writes = own_text 0 refl refl; part = refl }, entry_of_mk),
+  )
+
+  -- the grammar has the one oper and no abstract part
+  pub is_flat : IsFlat mods (codes "R2" ∷ []) flat
+  is_flat = record {
+    has_abstract = of_none no_abstract refl refl refl refl;
+    params = record { all = λ f. (λ c. absurd (omega (arith, c.1)), no_parameter); once = λ i j d a b. absurd (omega (arith, b)) };
+    opers_of = record {
+      all = λ f. (λ c. subst (HasSomewhere mods opers (codes "R2" ∷ [])) (one_of c) has_entry, λ h. (0, omega arith, sym (somewhere h).1));
+      once = λ i j d a b. absurd (omega (arith, a, b));
+    };
+    languages = refl;
+    judgements = λ c k. absurd (omega (arith, k.1));
+    typed = refl;
+  }
+
+  -- and without it there is no such grammar
+  pub no_oper_left_out : (f : Flat) → f.opers ≡ [] → ¬ (IsFlat mods (codes "R2" ∷ []) f)
+  no_oper_left_out f e h =
+      let c = (h.opers_of.all entry).1 has_entry in
+      let none : length f.opers ≡ 0 = ap (λ (es : List FlatJudgement). length es) e in omega (arith, c.1, none)
