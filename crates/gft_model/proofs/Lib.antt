@@ -4,6 +4,15 @@ pub mod OutcomeExamples
 pub mod MatchExamples
 pub mod TypeExamples
 pub mod SourceExamples
+pub mod ReadingTokens
+pub mod FirstTokens
+pub mod Descent
+pub mod Beginnings
+pub mod Lookahead
+pub mod Claims
+pub mod DescentLaws
+pub mod SliceLaws
+pub mod ModuleLaws
 pub mod ModuleExamples
 pub mod FlatExamples
 pub mod TermTreeExamples

@@ -1,15 +1,20 @@
 -- Laws of the definitions over sources, each the clause of a function.
-use Rattle.std.specs.Prelude.{◌≡◌, ◌≢◌, codes, Contains, ℕ, List, [], ◌∷◌, ◌++◌, map, length}
+use Rattle.std.specs.Prelude.{◌≡◌, ◌≢◌, codes, Contains, ℕ, List, [], ◌∷◌, ◌++◌, map, length, Option}
 use Rattle.gft_syntax.specs.declared.ctype.CType.{CType}
 use Rattle.gft_syntax.specs.declared.flat.Flat.{Flat}
+use Rattle.gft_syntax.specs.declared.judgement.Judgement.{Judgement}
+use Rattle.gft_syntax.specs.declared.judgement.Keyword.{Keyword}
 use Rattle.gft_syntax.specs.declared.linear.LinTerm.{LinTerm, roll-LinTerm}
 use Rattle.gft_syntax.specs.declared.linear.LinTerm.TheOpen as Lin-F
+use Rattle.gft_syntax.specs.declared.module.Module.{Module}
 use Rattle.gft_syntax.specs.declared.pattern.Pattern.{Pattern}
 use Rattle.gft_syntax.specs.declared.reference.Whole.{Whole}
 use Rattle.gft_syntax.specs.declared.term.Term.{Term}
 use Rattle.gft_syntax.specs.declared.token.SourceToken.{SourceToken}
 use Rattle.gft_model.specs.ConcreteTypes.{values_of, count_of, cases_of}
 use Rattle.gft_model.specs.ConcreteTyping.{IsType, Finds, Checks}
+use Rattle.gft_model.specs.Grammar.{Level, PatternLevel, SpellsTerm, SpellsPattern}
+use Rattle.gft_model.specs.ModuleGrammar.{SpellsJudgement, SpellsSlice, SpellsModule}
 use Rattle.gft_model.specs.Items.{Item, lincat}
 use Rattle.gft_model.specs.JudgementTyping.{items, IsTyped}
 use Rattle.gft_model.specs.PatternTyping.{Scope, PatternFits}
@@ -21,6 +26,29 @@ use Rattle.gft_model.specs.Source.{Tokens}
 abbrev pub TokensAreDetermined : Type 0
 TokensAreDetermined =
     (file : ℕ) (bytes : List ℕ) (ts us : List SourceToken) → Tokens file bytes ts → Tokens file bytes us → ts ≡ us
+
+-- tokens spell at most one term of a level, and one pattern
+abbrev pub SpelledTermIsDetermined : Type 0
+SpelledTermIsDetermined = (l : Level) (ts : List SourceToken) (a b : Term) → SpellsTerm l ts a [] → SpellsTerm l ts b [] → a ≡ b
+
+abbrev pub SpelledPatternIsDetermined : Type 0
+SpelledPatternIsDetermined =
+    (l : PatternLevel) (ts : List SourceToken) (p q : Pattern) → SpellsPattern l ts p [] → SpellsPattern l ts q [] → p ≡ q
+
+-- the tokens after a keyword spell at most one judgement
+abbrev pub SpelledJudgementIsDetermined : Type 0
+SpelledJudgementIsDetermined =
+    (k : Keyword) (ts : List SourceToken) (i j : Judgement) → SpellsJudgement k ts i → SpellsJudgement k ts j → i ≡ j
+
+-- a slice spells at most one judgement, with one keyword
+abbrev pub SpelledSliceIsDetermined : Type 0
+SpelledSliceIsDetermined =
+    (before : Option Keyword) (ts : List SourceToken) (k l : Keyword) (i j : Judgement) →
+    SpellsSlice before ts k i → SpellsSlice before ts l j → (k ≡ l) × (i ≡ j)
+
+-- the tokens of a file spell at most one module
+abbrev pub SpelledModuleIsDetermined : Type 0
+SpelledModuleIsDetermined = (ts : List SourceToken) (m n : Module) → SpellsModule ts m → SpellsModule ts n → m ≡ n
 
 -- the outcomes of a | b are those of a, then those of b
 abbrev pub AlternativesInOrder : Type 0

@@ -1,9 +1,34 @@
 //! Laws of the definitions over sources. Each function does nothing; its clause is the law.
-ghost use Rattle.gft_model.specs.SourceLaws.{TokensAreDetermined, AlternativesInOrder, NoVariants, ValuesAreCounted, CasesAreInOrder, PatternFitsOnce, WrittenTypeIsDetermined, FoundTypeIsDetermined, MeaningIsDetermined, JudgementIsDetermined};
+ghost use Rattle.gft_model.specs.SourceLaws.{TokensAreDetermined, SpelledTermIsDetermined, SpelledPatternIsDetermined, SpelledJudgementIsDetermined, SpelledSliceIsDetermined, SpelledModuleIsDetermined, AlternativesInOrder, NoVariants, ValuesAreCounted, CasesAreInOrder, PatternFitsOnce, WrittenTypeIsDetermined, FoundTypeIsDetermined, MeaningIsDetermined, JudgementIsDetermined};
 
 /// A file has at most one list of tokens.
 pub fn tokens_are_determined()
     ensures { TokensAreDetermined }
+{}
+
+/// Tokens spell at most one term of a level.
+pub fn spelled_term_is_determined()
+    ensures { SpelledTermIsDetermined }
+{}
+
+/// Tokens spell at most one pattern of a level.
+pub fn spelled_pattern_is_determined()
+    ensures { SpelledPatternIsDetermined }
+{}
+
+/// The tokens after a keyword spell at most one judgement.
+pub fn spelled_judgement_is_determined()
+    ensures { SpelledJudgementIsDetermined }
+{}
+
+/// A slice spells at most one judgement, by its own keyword or by that of the slice before.
+pub fn spelled_slice_is_determined()
+    ensures { SpelledSliceIsDetermined }
+{}
+
+/// The tokens of a file spell at most one module.
+pub fn spelled_module_is_determined()
+    ensures { SpelledModuleIsDetermined }
 {}
 
 /// The outcomes of a choice of two terms are those of the first, then those of the second.
