@@ -13,6 +13,7 @@ pub mod Claims
 pub mod DescentLaws
 pub mod SliceLaws
 pub mod ModuleLaws
+pub mod SpellingExamples
 pub mod ModuleExamples
 pub mod FlatExamples
 pub mod TermTreeExamples
