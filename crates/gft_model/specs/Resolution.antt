@@ -21,7 +21,7 @@ use Rattle.gft_syntax.specs.declared.term.Local.{Local}
 use Rattle.gft_syntax.specs.declared.term.Local.TheVariants.{Value, Label, TypedValue}
 use Rattle.gft_syntax.specs.declared.term.Term.{Term, roll-Term, out-Term}
 use Rattle.gft_syntax.specs.declared.term.Term.TheOpen as T
-use Rattle.gft_syntax.specs.declared.term.Term.TheFolds.{para-Term}
+use Rattle.gft_syntax.specs.declared.term.Term.TheFolds.{para-Term, map-Term}
 use Rattle.gft_model.specs.JudgementTyping.{list_name}
 
 -- what names mean: a bare one, one with a module's name before it, and which bare ones are constructors
@@ -104,7 +104,7 @@ variables_of = fold-Pattern Locals variables_step
 abbrev pub Open : Type 0
 Open = Locals → Term
 
--- fields, whose labels are no variables
+-- a local, whose own names are not among the variables
 abbrev pub resolved_field : Locals → Local (Term × Open) → Local Term
 resolved_field xs (Value ls e) = Value ls (e.1 xs)
 resolved_field xs (Label ls t) = Label ls (t.1 xs)
@@ -141,34 +141,20 @@ list_category n (R.Written C) = whole_or (R.Written C) (n.bare (list_name C))
 list_category n (R.Found o) = R.Found o
 list_category n (R.Whole w) = R.Whole w
 
+-- names are replaced, and forms that bind variables hand them on; in every other form the parts stand under
+-- the same variables
 abbrev pub resolve_step : Names → T.Term-F (Term × Open) → Open
-resolve_step n (T.Alt a b place) xs = roll-Term (T.Alt (a.1 xs) (b.1 xs) place)
 resolve_step n (T.Fun bs e place) xs = roll-Term (T.Fun bs (e.1 (bound_names bs ++ xs)) place)
 resolve_step n (T.TabFun bs e place) xs = roll-Term (T.TabFun bs (e.1 (bound_names bs ++ xs)) place)
 resolve_step n (T.Arrow bs a b place) xs = roll-Term (T.Arrow bs (a.1 xs) (b.1 (bound_names bs ++ xs)) place)
-resolve_step n (T.TabType a b place) xs = roll-Term (T.TabType (a.1 xs) (b.1 xs) place)
 resolve_step n (T.Let ls e place) xs = let r = resolved_locals xs ls in roll-Term (T.Let r.0 (e.1 r.1) place)
-resolve_step n (T.Concat a b place) xs = roll-Term (T.Concat (a.1 xs) (b.1 xs) place)
-resolve_step n (T.Glue a b place) xs = roll-Term (T.Glue (a.1 xs) (b.1 xs) place)
-resolve_step n (T.Select a b place) xs = roll-Term (T.Select (a.1 xs) (b.1 xs) place)
-resolve_step n (T.Extend a b place) xs = roll-Term (T.Extend (a.1 xs) (b.1 xs) place)
-resolve_step n (T.Pair a b place) xs = roll-Term (T.Pair (a.1 xs) (b.1 xs) place)
 resolve_step n (T.TableOf p cs place) xs =
     roll-Term (T.TableOf (option_map (λ t. t.1 xs) p) (map (resolved_case n xs) cs) place)
-resolve_step n (T.TableList p es place) xs = roll-Term (T.TableList (p.1 xs) (map (λ e. e.1 xs) es) place)
-resolve_step n (T.App f a place) xs = roll-Term (T.App (f.1 xs) (a.1 xs) place)
 resolve_step n (T.CaseOf e cs place) xs = roll-Term (T.CaseOf (e.1 xs) (map (resolved_case n xs) cs) place)
-resolve_step n (T.Variants es place) xs = roll-Term (T.Variants (map (λ e. e.1 xs) es) place)
 resolve_step n (T.Proj e x place) xs = projected (qualified_name n xs (out-Term e.0) x) (e.1 xs) x place
 resolve_step n (T.Var r place) xs = roll-Term (T.Var (resolved_name n r xs) place)
-resolve_step n (T.Lit t place) xs = roll-Term (T.Lit t place)
-resolve_step n (T.Num k place) xs = roll-Term (T.Num k place)
-resolve_step n (T.Empty place) xs = roll-Term (T.Empty place)
 resolve_step n (T.ListCat r place) xs = roll-Term (T.ListCat (list_category n r) place)
-resolve_step n (T.Sort s place) xs = roll-Term (T.Sort s place)
-resolve_step n (T.Fields ls place) xs = roll-Term (T.Fields (map (resolved_field xs) ls) place)
-resolve_step n (T.Tuple es place) xs = roll-Term (T.Tuple (map (λ e. e.1 xs) es) place)
-resolve_step n (T.Typed e t place) xs = roll-Term (T.Typed (e.1 xs) (t.1 xs) place)
+resolve_step n d xs = roll-Term (map-Term (Term × Open) Term (λ t. t.1 xs) d)
 
 -- a term with its names replaced, under local variables
 abbrev pub resolved : Names → Term → Open
