@@ -25,10 +25,11 @@ use Rattle.gft_model.specs.Resolution.{Names, resolved_judgement}
 abbrev pub whole_of : List ℕ → Declared → Whole
 whole_of x d = record { «module» = module_of d; name = x }
 
--- the judgement with that one of its names alone
+-- that one of the names alone
 abbrev pub only : List ℕ → List PlacedName → List PlacedName
 only x ns = filter (λ n. bytes_eq x n.name) ns
 
+-- a judgement with one of its names alone
 abbrev pub alone : List ℕ → Judgement → Judgement
 alone x (J.Fun ns T) = J.Fun (only x ns) T
 alone x (J.Lincat ns T) = J.Lincat (only x ns) T
@@ -72,32 +73,37 @@ abbrev pub IsConstructor : Judgement → List ℕ → Type 0
 IsConstructor j x =
     (n : PlacedName) × (cs : List Constructor) × (j ≡ J.Param n cs) × Contains (map (λ (c : Constructor). c.name.name) cs) x
 
--- the start category: that of the last flag whose value is a category
+-- a category, the built-in ones among them
 abbrev pub is_category : List (List ℕ) → List ℕ → Bool
 is_category cats C = list_any (bytes_eq C) (codes "Int" ∷ codes "String" ∷ cats)
 
+-- the category that a flag of the start category names
 abbrev pub flag_value : List (List ℕ) → Judgement → Option (List ℕ)
 flag_value cats (J.Flag n (V.Name C)) =
     if bytes_eq n.name (codes "startcat") && is_category cats C then Some C else None
 flag_value cats j = None
 
+-- the last of them, or what was found before
 abbrev pub last_value : List (List ℕ) → List Judgement → Option (List ℕ) → Option (List ℕ)
 last_value cats [] found = found
 last_value cats (j ∷ js) found =
     last_value cats js (elim (flag_value cats j) [ Some C ↦ Some C | None ↦ found ])
 
--- else S, else the first category by name, else Int
+-- the first of names in byte order
 abbrev pub first_name : List ℕ → List (List ℕ) → List ℕ
 first_name C [] = C
 first_name C (D ∷ Ds) = first_name (elim (slice_cmp nat_cmp D C) [ Less ↦ D | Equal ↦ C | Greater ↦ C ]) Ds
 
+-- the start category where no flag names one: S, else the first by name, else Int
 abbrev pub default_start : List (List ℕ) → List ℕ
 default_start [] = codes "Int"
 default_start (C ∷ Cs) = if list_any (bytes_eq (codes "S")) (C ∷ Cs) then codes "S" else first_name C Cs
 
+-- the start category, by the last flag of the module itself that names one
 abbrev pub start_of : List (List ℕ) → List Judgement → List ℕ
 start_of cats js = elim (last_value cats js None) [ Some C ↦ C | None ↦ default_start cats ]
 
+-- the header of a complete concrete module
 abbrev pub is_complete_concrete : Header → Bool
 is_complete_concrete (Concrete n a) = true
 is_complete_concrete h = false

@@ -33,22 +33,27 @@ use Rattle.gft_syntax.specs.declared.token.Symbol.TheVariants as S
 use Rattle.gft_syntax.specs.declared.token.TokenForm.TheVariants.{Identifier, Reserved, Number, Quoted, Symbol}
 use Rattle.gft_model.specs.JudgementTyping.{list_name}
 
+-- tokens of a file
 abbrev pub Tokens : Type 0
 Tokens = List SourceToken
 
--- the token is the symbol, the reserved word, the name, the number, the text in quotes
+-- the token is the symbol
 abbrev pub Is : Sign → SourceToken → Type 0
 Is s t = t.form ≡ Symbol s
 
+-- the token is the reserved word
 abbrev pub IsReserved : Word → SourceToken → Type 0
 IsReserved w t = t.form ≡ Reserved w
 
+-- the token is the name
 abbrev pub IsNamed : List ℕ → SourceToken → Type 0
 IsNamed x t = t.form ≡ Identifier x
 
+-- the token is the number, however it is written
 abbrev pub IsNumber : ℕ → SourceToken → Type 0
 IsNumber n t = (s : List ℕ) × (t.form ≡ Number n s)
 
+-- the token is the text in quotes
 abbrev pub IsQuoted : List ℕ → SourceToken → Type 0
 IsQuoted text t = (s : List ℕ) × (t.form ≡ Quoted text s)
 
@@ -57,6 +62,7 @@ abbrev pub first_place : Tokens → Option Place
 first_place [] = None
 first_place (t ∷ ts) = Some t.place
 
+-- the first token stands at the place
 abbrev pub FirstAt : Tokens → Place → Type 0
 FirstAt ts p = first_place ts ≡ Some p
 
@@ -69,11 +75,13 @@ abbrev pub distinct : List (List ℕ) → Bool
 distinct [] = true
 distinct (x ∷ xs) = not (list_any (bytes_eq x) xs) && distinct xs
 
+-- a local or field with =
 abbrev pub is_value : {A : Type 0} → Local A → Bool
 is_value (Value xs e) = true
 is_value (Label xs t) = false
 is_value (TypedValue xs t e) = true
 
+-- the names that a local or field has
 abbrev pub labels_of : {A : Type 0} → Local A → List (List ℕ)
 labels_of (Value xs e) = xs
 labels_of (Label xs t) = xs
@@ -84,10 +92,11 @@ abbrev pub are_fields : {A : Type 0} → List (Local A) → Bool
 are_fields ls =
     (list_all is_value ls || list_all (λ l. not (is_value l)) ls) && distinct (flat_map labels_of ls)
 
--- the levels of terms and of patterns, from the loosest
+-- the levels of terms, from the loosest
 pub data Level : Type 0 where
   exp exp1 exp2 exp3 exp4 exp5 exp6 : Level
 
+-- the levels of patterns, from the loosest
 pub data PatternLevel : Type 0 where
   patt patt1 patt2 patt3 patt4 : PatternLevel
 
@@ -122,14 +131,16 @@ Meaning (listed s g) = List (Meaning g)
 Meaning (semicolons g) = List (Meaning g)
 Meaning (many g) = List (Meaning g)
 
+-- a form of two terms at a place
 abbrev pub TermForm : Type 0
 TermForm = Term → Term → Place → T.Term-F Term
 
+-- a form of two patterns at a place
 abbrev pub PatternForm : Type 0
 PatternForm = Pattern → Pattern → Place → P.Pattern-F Pattern
 
--- the forms with a symbol between two terms, or two patterns: the level of the form, of its left part,
--- the symbol, and the level of its right part
+-- the forms with a symbol between two terms: the level of the form, of its left part, the symbol, and the
+-- level of its right part
 pub data Infix : Level → Level → Sign → Level → TermForm → Type 0 where
   alternatives : Infix exp exp1 S.Bar exp T.Alt
   table_type : Infix exp exp3 S.DoubleArrow exp T.TabType
@@ -140,6 +151,7 @@ pub data Infix : Level → Level → Sign → Level → TermForm → Type 0 wher
   extension : Infix exp3 exp3 S.DoubleStar exp4 T.Extend
   pair : Infix exp3 exp3 S.Star exp4 T.Pair
 
+-- the same of patterns
 pub data InfixPattern : PatternLevel → PatternLevel → Sign → PatternLevel → PatternForm → Type 0 where
   either : InfixPattern patt patt S.Bar patt1 P.Or
   in_sequence : InfixPattern patt1 patt1 S.Plus patt2 P.Seq
@@ -153,6 +165,7 @@ pub data Tighter : Level → Level → Type 0 where
   below_exp4 : Tighter exp4 exp5
   below_exp5 : Tighter exp5 exp6
 
+-- the same of patterns
 pub data TighterPattern : PatternLevel → PatternLevel → Type 0 where
   below_patt : TighterPattern patt patt1
   below_patt1 : TighterPattern patt1 patt2
@@ -355,9 +368,10 @@ pub data Spells : (g : Part) → Tokens → Meaning g → Tokens → Type 0 wher
       Is S.Equals e → IsNamed j t → Is S.RightParenthesis r →
       Spells substitution (l ∷ s ∷ e ∷ t ∷ r ∷ ts) (record { interface = placed i s; instance = placed j t }) ts
 
--- the tokens up to the rest spell a term, a pattern, of a level
+-- the tokens up to the rest spell a term of the level
 abbrev pub SpellsTerm : Level → Tokens → Term → Tokens → Type 0
 SpellsTerm l = Spells (term l)
 
+-- the tokens up to the rest spell a pattern of the level
 abbrev pub SpellsPattern : PatternLevel → Tokens → Pattern → Tokens → Type 0
 SpellsPattern l = Spells (pattern l)

@@ -59,6 +59,7 @@ pub data Mark : Type 0 where
   semicolon : Mark
   other : Mark
 
+-- what a form of a token is to it
 abbrev pub mark_of : TokenForm → Mark
 mark_of (Symbol S.LeftBrace) = opening
 mark_of (Symbol S.LeftParenthesis) = opening
@@ -93,6 +94,7 @@ slices_from os held (t ∷ ts) =
       | other ↦ slices_from os (held ++ t ∷ []) ts
     ]
 
+-- the slices of a body from behind its brace, and the tokens after it
 abbrev pub slices_of : Tokens → Option (List Tokens × Tokens)
 slices_of ts = slices_from [] [] ts
 
@@ -197,12 +199,13 @@ pub data SpellsBody : Tokens → Body → Tokens → Type 0 where
       Is S.LeftBrace l → slices_of us ≡ Some (ss, rest) → SpellsSlices None ss js →
       SpellsBody (o ∷ ts) (record { opened = os; judgements = js }) rest
 
--- the kinds of modules that name no other, and those that name one after of
+-- the kinds of modules that name no other
 pub data PlainKind : Word → (PlacedName → Header) → Type 0 where
   an_abstract : PlainKind W.Abstract H.Abstract
   a_resource : PlainKind W.Resource H.Resource
   an_interface : PlainKind W.Interface H.Interface
 
+-- the kinds of modules that name one after of
 pub data KindOf : Word → (PlacedName → PlacedName → Header) → Type 0 where
   an_instance : KindOf W.Instance H.Instance
   a_concrete : KindOf W.Concrete H.Concrete

@@ -43,52 +43,59 @@ body_of (Own hs b) = Some b
 body_of (Inherits hs) = None
 body_of (With hs f ss b) = b
 
--- its own judgements and what it opens
+-- its own judgements
 abbrev pub judgements_of : Module → List Judgement
 judgements_of m = elim (body_of m.rest) [ None ↦ [] | Some b ↦ b.judgements ]
 
+-- what it opens
 abbrev pub opened_of : Module → List Opened
 opened_of m = elim (body_of m.rest) [ None ↦ [] | Some b ↦ b.opened ]
 
--- the module that is inherited, and whether the restriction lets a name through
+-- the module that is inherited
 abbrev pub inherited_name : Inherited → List ℕ
 inherited_name (Whole n) = n.name
 inherited_name (Only n xs) = n.name
 inherited_name (Except n xs) = n.name
 
+-- the name is among those
 abbrev pub is_listed : List ℕ → List PlacedName → Bool
 is_listed x ns = list_any (λ n. bytes_eq x n.name) ns
 
+-- a restriction lets the name through
 abbrev pub lets_through : Inherited → List ℕ → Bool
 lets_through (Whole n) x = true
 lets_through (Only n xs) x = is_listed x xs
 lets_through (Except n xs) x = not (is_listed x xs)
 
--- the modules that a module names, in the order in which they are loaded: its abstract module or interface,
--- what it inherits, its functor, each interface with its instance, what it opens
+-- the module that a header names: an interface, or an abstract module
 abbrev pub named_by_header : Header → List (List ℕ)
 named_by_header (Instance n i) = i.name ∷ []
 named_by_header (Concrete n a) = a.name ∷ []
 named_by_header (Incomplete n a) = a.name ∷ []
 named_by_header h = []
 
+-- what a module inherits, its functor with interfaces and instances
 abbrev pub named_by_rest : Rest → List (List ℕ)
 named_by_rest (Own hs b) = map inherited_name hs
 named_by_rest (Inherits hs) = map inherited_name hs
 named_by_rest (With hs f ss b) =
     map inherited_name hs ++ inherited_name f ∷ flat_map (λ s. s.interface.name ∷ s.instance.name ∷ []) ss
 
+-- the module that is opened
 abbrev pub opened_name : Opened → List ℕ
 opened_name (Plain n) = n.name
 opened_name (Qualified q n) = n.name
 
+-- the modules that a module names, in the order in which they are loaded: its interface or abstract module,
+-- what it inherits, its functor, each interface with its instance, what it opens
 abbrev pub named_modules : Module → List (List ℕ)
 named_modules m = named_by_header m.header ++ named_by_rest m.rest ++ map opened_name (opened_of m)
 
--- the names that a judgement declares; a flag is no name
+-- names without their places
 abbrev pub names_of : List PlacedName → List (List ℕ)
 names_of ns = map (λ n. n.name) ns
 
+-- the names that a judgement declares; a flag is no name
 abbrev pub declared_names : Judgement → List (List ℕ)
 declared_names (J.Cat n cs) = n.name ∷ []
 declared_names (J.ListCat n r k place) =
@@ -141,6 +148,7 @@ pub data Written : Type 0 where
   bare : List ℕ → Written
   qualified : List ℕ → List ℕ → Written
 
+-- the name without that of a module
 abbrev pub name_of : Written → List ℕ
 name_of (bare x) = x
 name_of (qualified Q x) = x

@@ -30,13 +30,15 @@ pub record Names : Type 0 where
   pub qualified : List ℕ → List ℕ → Option Whole
   pub is_constructor : List ℕ → Bool
 
--- the local variables
+-- the names of local variables
 abbrev pub Locals : Type 0
 Locals = List (List ℕ)
 
+-- a local variable has the name
 abbrev pub is_local : List ℕ → Locals → Bool
 is_local x xs = list_any (bytes_eq x) xs
 
+-- the variables that are bound
 abbrev pub bound_names : List Bind → Locals
 bound_names [] = []
 bound_names (Variable x place ∷ xs) = x ∷ bound_names xs
@@ -47,6 +49,7 @@ abbrev pub whole_or : Reference → Option Whole → Reference
 whole_or r None = r
 whole_or r (Some w) = R.Whole w
 
+-- a name under local variables
 abbrev pub resolved_name : Names → Reference → Locals → Reference
 resolved_name n (R.Written x) xs = if is_local x xs then R.Written x else whole_or (R.Written x) (n.bare x)
 resolved_name n (R.Found o) xs = R.Found o
@@ -69,20 +72,23 @@ resolved_head n xs (Some Q) (R.Written x) = whole_or (R.Written x) (resolved_qua
 resolved_head n xs (Some Q) (R.Found o) = R.Found o
 resolved_head n xs (Some Q) (R.Whole w) = R.Whole w
 
+-- the names in one layer of a pattern
 abbrev pub pattern_step : Names → Locals → P.Pattern-F Pattern → Pattern
 pattern_step n xs (P.Con m r ps place) = roll-Pattern (P.Con m (resolved_head n xs m r) ps place)
 pattern_step n xs (P.Name r place) = roll-Pattern (P.Name (resolved_leaf n xs r) place)
 pattern_step n xs d = roll-Pattern d
 
+-- a pattern with its names replaced
 abbrev pub resolved_pattern : Names → Locals → Pattern → Pattern
 resolved_pattern n xs = fold-Pattern Pattern (pattern_step n xs)
 
--- the variables of a resolved pattern
+-- the variable that a name of a resolved pattern is
 abbrev pub variable_of : Reference → Locals
 variable_of (R.Written x) = x ∷ []
 variable_of (R.Found o) = []
 variable_of (R.Whole w) = []
 
+-- the variables of one layer of a pattern; those of both sides of an alternative are the same
 abbrev pub variables_step : P.Pattern-F Locals → Locals
 variables_step (P.Or p q place) = p
 variables_step (P.Seq p q place) = p ++ q
@@ -97,6 +103,7 @@ variables_step (P.Num k place) = []
 variables_step (P.Fields fs place) = flat_map (λ f. f.pattern) fs
 variables_step (P.Tuple ps place) = flat_map (λ p. p) ps
 
+-- the variables that a resolved pattern binds
 abbrev pub variables_of : Pattern → Locals
 variables_of = fold-Pattern Locals variables_step
 
@@ -110,17 +117,19 @@ resolved_field xs (Value ls e) = Value ls (e.1 xs)
 resolved_field xs (Label ls t) = Label ls (t.1 xs)
 resolved_field xs (TypedValue ls t e) = TypedValue ls (t.1 xs) (e.1 xs)
 
--- locals, each seeing those before it, and the variables after them
+-- the names that a local binds
 abbrev pub local_names : {A : Type 0} → Local A → Locals
 local_names (Value ls e) = ls
 local_names (Label ls t) = ls
 local_names (TypedValue ls t e) = ls
 
+-- locals, each seeing those before it, and the variables after them
 abbrev pub resolved_locals : Locals → List (Local (Term × Open)) → List (Local Term) × Locals
 resolved_locals xs [] = ([], xs)
 resolved_locals xs (l ∷ ls) =
     let rest = resolved_locals (local_names l ++ xs) ls in (resolved_field xs l ∷ rest.0, rest.1)
 
+-- a branch, whose body sees the variables of its pattern
 abbrev pub resolved_case : Names → Locals → Case (Term × Open) → Case Term
 resolved_case n xs c =
     let p = resolved_pattern n xs c.pattern in
@@ -131,6 +140,7 @@ abbrev pub qualified_name : Names → Locals → T.Term-F Term → List ℕ → 
 qualified_name n xs (T.Var (R.Written Q) place) x = resolved_qualified n xs Q x
 qualified_name n xs d x = None
 
+-- a whole name or a projection
 abbrev pub projected : Option Whole → Term → List ℕ → Place → Term
 projected None e x place = roll-Term (T.Proj e x place)
 projected (Some w) e x place = roll-Term (T.Var (R.Whole w) place)
@@ -166,9 +176,11 @@ resolved_contexts n xs [] = []
 resolved_contexts n xs (c ∷ cs) =
     record { binds = c.binds; of_type = resolved n c.of_type xs } ∷ resolved_contexts n (bound_names c.binds ++ xs) cs
 
+-- a constructor with the names in its arguments replaced
 abbrev pub resolved_constructor : Names → Constructor → Constructor
 resolved_constructor n c = record { name = c.name; arguments = resolved_contexts n [] c.arguments }
 
+-- a definition with its names replaced; alternatives of an overload see no arguments
 abbrev pub resolved_definition : Names → Locals → Definition → Definition
 resolved_definition n xs (D.Term e) = D.Term (resolved n e xs)
 resolved_definition n xs (D.Overload ds) =

@@ -44,6 +44,7 @@ abbrev pub spelled_in : {A : Type 0} → List (List ℕ × A) → List ℕ → O
 spelled_in [] s = None
 spelled_in (e ∷ es) s = if bytes_eq s e.0 then Some e.1 else spelled_in es s
 
+-- an ASCII digit
 abbrev pub is_digit : ℕ → Bool
 is_digit c = nat_le 48 c && nat_le c 57
 
@@ -101,6 +102,7 @@ longest_from held (c ∷ cs) best =
     let here = held ++ c ∷ [] in
     longest_from here cs (elim (form_of here) [ Some t ↦ Some (t, length here) | None ↦ best ])
 
+-- the longest beginning that is a token, and its length
 abbrev pub longest : List ℕ → Option (TokenForm × ℕ)
 longest cs = longest_from [] cs None
 
@@ -122,14 +124,17 @@ pub data Lexeme : Type 0 where
   token : TokenForm → ℕ → Lexeme
   nothing : Lexeme
 
+-- a token, where one begins
 abbrev pub token_lexeme : Option (TokenForm × ℕ) → Lexeme
 token_lexeme None = nothing
 token_lexeme (Some t) = token t.0 t.1
 
+-- a comment in braces with its beginning, where it is closed
 abbrev pub block_lexeme : Option ℕ → Lexeme
 block_lexeme None = nothing
 block_lexeme (Some n) = blank (n + 2)
 
+-- what begins at the first of the characters
 abbrev pub lexeme_at : List ℕ → Lexeme
 lexeme_at [] = nothing
 lexeme_at (c ∷ []) = if is_whitespace c then blank 1 else token_lexeme (longest (c ∷ []))
@@ -157,6 +162,7 @@ tokens_from zero p (c ∷ cs) =
       | token t n ↦ option_map (λ ts. record { form = t; place = p } ∷ ts) (tokens_from (n - 1) (after c p) cs)
     ]
 
+-- the place of the first character of a file
 abbrev pub first_place : ℕ → Place
 first_place file = record { file = file; line = 1; col = 1 }
 

@@ -27,10 +27,11 @@ abbrev pub TokensAreDetermined : Type 0
 TokensAreDetermined =
     (file : ℕ) (bytes : List ℕ) (ts us : List SourceToken) → Tokens file bytes ts → Tokens file bytes us → ts ≡ us
 
--- tokens spell at most one term of a level, and one pattern
+-- tokens spell at most one term of a level
 abbrev pub SpelledTermIsDetermined : Type 0
 SpelledTermIsDetermined = (l : Level) (ts : List SourceToken) (a b : Term) → SpellsTerm l ts a [] → SpellsTerm l ts b [] → a ≡ b
 
+-- tokens spell at most one pattern of a level
 abbrev pub SpelledPatternIsDetermined : Type 0
 SpelledPatternIsDetermined =
     (l : PatternLevel) (ts : List SourceToken) (p q : Pattern) → SpellsPattern l ts p [] → SpellsPattern l ts q [] → p ≡ q
