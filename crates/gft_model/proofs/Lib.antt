@@ -12,6 +12,7 @@ pub mod Lookahead
 pub mod Claims
 pub mod DescentLaws
 pub mod SliceLaws
+pub mod Spines
 pub mod ModuleLaws
 pub mod SpellingExamples
 pub mod ModuleExamples
