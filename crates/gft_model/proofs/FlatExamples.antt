@@ -13,7 +13,7 @@ use Rattle.gft_syntax.specs.declared.module.Module.{Module}
 use Rattle.gft_syntax.specs.declared.reference.PlacedName.{PlacedName}
 use Rattle.gft_syntax.specs.declared.reference.Whole.{Whole}
 use Rattle.gft_syntax.specs.declared.term.Term.{Term}
-use Rattle.gft_model.specs.Modules.{Is, Has, declares, inherits, keeps, instantiates, HasNameable, at_home, from_opened, from_named, plainly, by_alias, by_name, Means, own_name, own_qualified, Declared, own, Writes, own_text, bare, qualified, inherited_of, opened_of, judgements_of, declared_names, named_modules, main_name}
+use Rattle.gft_model.specs.Modules.{Is, Has, declares, inherits, keeps, instantiates, HasNameable, at_home, from_opened, from_named, plainly, by_alias, by_name, Means, own_name, own_qualified, Declared, own, Writes, own_text, bare, qualified, inherited_of, opened_of, judgements_of, declared_names, mentions, main_name}
 use Rattle.gft_model.specs.Resolution.{Names, resolved_judgement}
 use Rattle.gft_model.specs.Flats.{whole_of, alone, part_of, IsConstructor, Part, parameters, opers, RestsOn, itself, through, IsMeaning, AreMeanings, IsEntry, HasEntry, HasSomewhere, of_none, IsFlat}
 use Rattle.gft_model.proofs.ModuleExamples.{resource_of_mk}
@@ -143,7 +143,7 @@ module _ (p : Place) (T e : Term) where
 
   rests : {M : List ℕ} → RestsOn mods (codes "R2") M → codes "R2" ≡ M
   rests itself = refl
-  rests (through is (k, b, f) r) = absurd (let none = ap (λ m. length (named_modules m)) (is_r2 is) in omega (arith, b, none))
+  rests (through is (k, b, f) r) = absurd (let none = ap (λ m. length (mentions m)) (is_r2 is) in omega (arith, b, none))
 
   only_entry : {g : Part} {M : List ℕ} {e' : FlatJudgement} → codes "R2" ≡ M → HasEntry mods g M e' → (g ≡ opers) × (e' ≡ entry)
   only_entry {g} {e' = f} same (x, d, j, h, i) =

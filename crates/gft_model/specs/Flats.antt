@@ -18,7 +18,7 @@ use Rattle.gft_syntax.specs.declared.module.Module.{Module}
 use Rattle.gft_syntax.specs.declared.reference.PlacedName.{PlacedName}
 use Rattle.gft_syntax.specs.declared.reference.Whole.{Whole}
 use Rattle.gft_model.specs.JudgementTyping.{list_name}
-use Rattle.gft_model.specs.Modules.{Is, Has, Writes, Means, Declared, module_of, module_named, named_by_header, named_modules, judgements_of, main_name, Written, bare, qualified, name_of}
+use Rattle.gft_model.specs.Modules.{Is, Has, Writes, Means, Declared, module_of, module_named, header_mentions, mentions, judgements_of, main_name, Written, bare, qualified, name_of}
 use Rattle.gft_model.specs.Resolution.{Names, resolved_judgement}
 
 -- the whole name of a judgement under one of its names
@@ -112,8 +112,8 @@ module _ (mods : List Module) where
   -- a module rests on itself, on what it names, and so on
   pub data RestsOn : List ℕ → List ℕ → Type 0 where
     itself : {M : List ℕ} → RestsOn M M
-    through : {M N K : List ℕ} {m : Module} →
-        Is mods M m → Contains (named_modules m) N → RestsOn N K → RestsOn M K
+    through : {M K : List ℕ} {m : Module} {n : PlacedName} →
+        Is mods M m → Contains (mentions m) n → RestsOn n.name K → RestsOn M K
 
   -- the one thing that a name in a judgement means; several are no fault where the name is not used
   pub record IsMeaning (d : Declared) (w : Written) (whole : Whole) : Type 0 where
@@ -157,17 +157,17 @@ module _ (mods : List Module) where
   -- others is no part of the language
   pub record HasLinearization (M : List ℕ) (e : FlatJudgement) : Type 0 where
     pub text : Module
-    pub abstract_name : List ℕ
+    pub abstract_at : PlacedName
     pub name : List ℕ
     pub declared : Declared
     pub judgement : Judgement
     pub part : Part
     pub is : Is mods M text
-    pub of_abstract : Contains (named_by_header text.header) abstract_name
+    pub of_abstract : Contains (header_mentions text.header) abstract_at
     pub has : Has mods M name declared
     pub writes : Writes mods declared judgement
     pub part_is : linearized_part judgement ≡ Some part
-    pub linearized : (d : Declared) × (j : Judgement) × HasOfPart part abstract_name name d j
+    pub linearized : (d : Declared) × (j : Judgement) × HasOfPart part abstract_at.name name d j
     pub entry : IsEntry name declared e
 
   -- the entries are exactly those of the relation, each once

@@ -13,13 +13,12 @@ use Rattle.gft_syntax.specs.declared.module.Inherited.{Inherited}
 use Rattle.gft_syntax.specs.declared.module.Inherited.TheVariants.{Whole, Only, Except}
 use Rattle.gft_syntax.specs.declared.module.Module.{Module}
 use Rattle.gft_syntax.specs.declared.module.Opened.{Opened}
-use Rattle.gft_syntax.specs.declared.module.Opened.TheVariants.{Plain, Qualified}
 use Rattle.gft_syntax.specs.declared.module.Rest.{Rest}
 use Rattle.gft_syntax.specs.declared.module.Rest.TheVariants.{Own, Inherits, With}
 use Rattle.gft_syntax.specs.declared.module.Substitution.{Substitution}
 use Rattle.gft_syntax.specs.declared.reference.PlacedName.{PlacedName}
 use Rattle.gft_model.specs.JudgementTyping.{list_name}
-use Rattle.gft_model.specs.Modules.{Is, Has, HasNameable, Writes, OwnName, OpensAs, Declared, copy, header_name, inherited_of, inherited_name, lets_through, judgements_of, opened_of, is_undefined, main_name}
+use Rattle.gft_model.specs.Modules.{inherited_at, opened_at, Is, Has, HasNameable, Writes, OwnName, OpensAs, Declared, copy, header_name, inherited_of, inherited_name, lets_through, judgements_of, opened_of, is_undefined, main_name}
 use Rattle.gft_model.specs.Refusals.{Moment, Before, refusal, place_moment, name_moment}
 
 -- kinds of modules
@@ -105,16 +104,6 @@ sort_of j = None
 -- what a module declares, in order, each name with the sort of its judgement
 abbrev pub own_names : Module → List (Option Keyword × PlacedName)
 own_names m = flat_map (λ j. map (λ n. (sort_of j, n)) (placed_names j)) (judgements_of m)
-
--- a module that is inherited or opened, where the header names it
-abbrev pub inherited_at : Inherited → PlacedName
-inherited_at (Whole n) = n
-inherited_at (Only n xs) = n
-inherited_at (Except n xs) = n
-
-abbrev pub opened_at : Opened → PlacedName
-opened_at (Plain n) = n
-opened_at (Qualified q n) = n
 
 -- what may be restricted: the functor of a with too
 abbrev pub restricted_of : Rest → List Inherited

@@ -1,5 +1,5 @@
 -- The files of an import: which are loaded, in which order, and why loading is refused.
-use Rattle.std.specs.Prelude.{◌≡◌, ℕ, ◌-◌, ◌<◌, ◌≤◌, List, [], ◌∷◌, ◌++◌, map, flat_map, take, drop, length, ◌==◌, codes, decimal, Contains, Some, None, ◌≢◌, if◌then◌else◌}
+use Rattle.std.specs.Prelude.{◌≡◌, ℕ, ◌-◌, ◌<◌, ◌≤◌, List, [], ◌∷◌, ◌++◌, take, drop, length, ◌==◌, codes, decimal, Contains, Some, None, ◌≢◌, if◌then◌else◌}
 use Rattle.std.specs.FinMap.{get}
 use Rattle.std.specs.List.{list_any}
 use Rattle.gft_io.specs.Outside.{Files}
@@ -7,20 +7,15 @@ use Rattle.gft_pmcfg.specs.declared.grammar.Grammar.{Grammar}
 use Rattle.gft_rules.specs.declared.refusal.Refusal.{Refusal}
 use Rattle.gft_rules.specs.declared.rule.Rule.{Rule}
 use Rattle.gft_rules.specs.declared.rule.Rule.TheVariants as R
-use Rattle.gft_syntax.specs.declared.module.Header.{Header}
-use Rattle.gft_syntax.specs.declared.module.Header.TheVariants.{Instance, Concrete, Incomplete}
 use Rattle.gft_syntax.specs.declared.module.Module.{Module}
-use Rattle.gft_syntax.specs.declared.module.Rest.{Rest}
-use Rattle.gft_syntax.specs.declared.module.Rest.TheVariants.{With}
 use Rattle.gft_syntax.specs.declared.reference.PlacedName.{PlacedName}
 use Rattle.gft_syntax.specs.declared.token.SourceToken.{SourceToken}
 use Rattle.gft_model.specs.Commands.{EndsIn, source_ending, portable_ending}
 use Rattle.gft_model.specs.Flaws.{Flaw, arity, index_type, unproductive}
 use Rattle.gft_model.specs.PortableFile
 use Rattle.gft_model.specs.PortableFile.{HasFault, IsInvalid}
-use Rattle.gft_model.specs.HeaderFaults.{inherited_at, opened_at, restricted_of}
 use Rattle.gft_model.specs.ModuleGrammar.{SpellsModule}
-use Rattle.gft_model.specs.Modules.{header_name, module_named, opened_of}
+use Rattle.gft_model.specs.Modules.{header_name, mentions, module_named}
 use Rattle.gft_model.specs.Refusals.{ByPlace, IsFirst, refusal, placeless}
 use Rattle.gft_model.specs.Source.{Tokens}
 use Rattle.gft_model.specs.SyntaxFaults.{BreaksSyntax}
@@ -47,22 +42,6 @@ base_of file = let rest = drop (length (folder_of file)) file in take (length re
 
 abbrev pub file_in : List ℕ → List ℕ → List ℕ
 file_in folder M = folder ++ M ++ codes ".gf"
-
--- the modules that a header names, in the order of the text
-abbrev pub header_mentions : Header → List PlacedName
-header_mentions (Instance n i) = i ∷ []
-header_mentions (Concrete n a) = a ∷ []
-header_mentions (Incomplete n a) = a ∷ []
-header_mentions h = []
-
-abbrev pub substitution_mentions : Rest → List PlacedName
-substitution_mentions (With hs f ss b) = flat_map (λ s. s.interface ∷ s.instance ∷ []) ss
-substitution_mentions r = []
-
-abbrev pub mentions : Module → List PlacedName
-mentions m =
-    header_mentions m.header ++ map inherited_at (restricted_of m.rest) ++ substitution_mentions m.rest
-    ++ map opened_at (opened_of m)
 
 -- the files that are loaded, in the order of their numbers, and the modules whose loading is complete, in
 -- that order

@@ -51,11 +51,20 @@ judgements_of m = elim (body_of m.rest) [ None ↦ [] | Some b ↦ b.judgements 
 abbrev pub opened_of : Module → List Opened
 opened_of m = elim (body_of m.rest) [ None ↦ [] | Some b ↦ b.opened ]
 
+-- a module that is inherited, where the header names it
+abbrev pub inherited_at : Inherited → PlacedName
+inherited_at (Whole n) = n
+inherited_at (Only n xs) = n
+inherited_at (Except n xs) = n
+
+-- a module that is opened, where the header names it
+abbrev pub opened_at : Opened → PlacedName
+opened_at (Plain n) = n
+opened_at (Qualified q n) = n
+
 -- the module that is inherited
 abbrev pub inherited_name : Inherited → List ℕ
-inherited_name (Whole n) = n.name
-inherited_name (Only n xs) = n.name
-inherited_name (Except n xs) = n.name
+inherited_name h = (inherited_at h).name
 
 -- the name is among those
 abbrev pub is_listed : List ℕ → List PlacedName → Bool
@@ -67,29 +76,22 @@ lets_through (Whole n) x = true
 lets_through (Only n xs) x = is_listed x xs
 lets_through (Except n xs) x = not (is_listed x xs)
 
--- the module that a header names: an interface, or an abstract module
-abbrev pub named_by_header : Header → List (List ℕ)
-named_by_header (Instance n i) = i.name ∷ []
-named_by_header (Concrete n a) = a.name ∷ []
-named_by_header (Incomplete n a) = a.name ∷ []
-named_by_header h = []
+-- the module after of: an interface, or an abstract module
+abbrev pub header_mentions : Header → List PlacedName
+header_mentions (Instance n i) = i ∷ []
+header_mentions (Concrete n a) = a ∷ []
+header_mentions (Incomplete n a) = a ∷ []
+header_mentions h = []
 
--- what a module inherits, its functor with interfaces and instances
-abbrev pub named_by_rest : Rest → List (List ℕ)
-named_by_rest (Own hs b) = map inherited_name hs
-named_by_rest (Inherits hs) = map inherited_name hs
-named_by_rest (With hs f ss b) =
-    map inherited_name hs ++ inherited_name f ∷ flat_map (λ s. s.interface.name ∷ s.instance.name ∷ []) ss
+-- what a module inherits, its functor, each interface with its instance
+abbrev pub rest_mentions : Rest → List PlacedName
+rest_mentions (Own hs b) = map inherited_at hs
+rest_mentions (Inherits hs) = map inherited_at hs
+rest_mentions (With hs f ss b) = map inherited_at hs ++ inherited_at f ∷ flat_map (λ s. s.interface ∷ s.instance ∷ []) ss
 
--- the module that is opened
-abbrev pub opened_name : Opened → List ℕ
-opened_name (Plain n) = n.name
-opened_name (Qualified q n) = n.name
-
--- the modules that a module names, in the order in which they are loaded: its interface or abstract module,
--- what it inherits, its functor, each interface with its instance, what it opens
-abbrev pub named_modules : Module → List (List ℕ)
-named_modules m = named_by_header m.header ++ named_by_rest m.rest ++ map opened_name (opened_of m)
+-- the modules that a module names, in the order of the text, in which they are loaded
+abbrev pub mentions : Module → List PlacedName
+mentions m = header_mentions m.header ++ rest_mentions m.rest ++ map opened_at (opened_of m)
 
 -- names without their places
 abbrev pub names_of : List PlacedName → List (List ℕ)
