@@ -8,11 +8,11 @@ use Rattle.gft_model.specs.AbstractParts.{IsAbstractPart}
 use Rattle.gft_model.specs.Commands.{EndsIn, portable_ending}
 use Rattle.gft_model.specs.CompileFaults.{BreaksCompiling}
 use Rattle.gft_model.specs.Compiled.{Compiles}
-use Rattle.gft_model.specs.Flats.{AreExactly, HasEntry, HasSomewhere, categories, functions, parameters, opers}
+use Rattle.gft_model.specs.Flats.{AreExactly, HasEntry, HasSomewhere, HasLinearization, categories, functions, parameters, opers}
 use Rattle.gft_model.specs.HeaderFaults.{BreaksHeader, Redefines}
 use Rattle.gft_model.specs.InstanceFaults.{BreaksInstance}
 use Rattle.gft_model.specs.Items.{items_of}
-use Rattle.gft_model.specs.JudgementOrder.{Turns, IsListed, AreEntries, Linearizes, typed_again, Listing}
+use Rattle.gft_model.specs.JudgementOrder.{Turns, IsListed, AreEntries, typed_again, Listing}
 use Rattle.gft_model.specs.JudgementTyping.{IsTyped}
 use Rattle.gft_model.specs.Loading.{base_of, Loading, loaded, refused, LoadsNamed, nothing_loaded, HasFiles}
 use Rattle.gft_model.specs.Modules.{header_name, module_named, judgements_of}
@@ -48,7 +48,7 @@ module _ (mods : List Module) where
     pub funs : (A : List ℕ) → abstract_name m.header ≡ Some A → AreExactly mods flat.funs (HasEntry mods functions A)
     pub language : List FlatJudgement
     pub concretes : flat.concretes ≡ record { name = (header_name m.header).name; judgements = language } ∷ []
-    pub has : AreExactly mods language (Linearizes mods (abstract_name m.header) (header_name m.header).name)
+    pub has : AreExactly mods language (HasLinearization mods (header_name m.header).name)
 
   -- all judgements of a view
   abbrev pub entries_of : Flat → List FlatJudgement

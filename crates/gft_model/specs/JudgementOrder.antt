@@ -140,18 +140,6 @@ module _ (mods : List Module) where
         ¬ (Ignored abstract x d) →
         IsEntry mods x d e → AreEntries abstract ls es → AreEntries abstract ((x, d) ∷ ls) (e ∷ es)
 
-  -- what a concrete module says of the categories and functions of its abstract module
-  pub record Linearizes (abstract : Option (List ℕ)) (M : List ℕ) (e : FlatJudgement) : Type 0 where
-    pub name : List ℕ
-    pub declared : Declared
-    pub text : Judgement
-    pub keyword : Keyword
-    pub has : Has mods M name declared
-    pub writes : Writes mods declared text
-    pub sort : sort_of text ≡ Some keyword
-    pub counts : ¬ (Ignored abstract name declared)
-    pub entry : IsEntry mods name declared e
-
 -- inherited linearizations are typed again: lincats, lindefs, linrefs, then lins
 abbrev pub is_of : Keyword → Option Keyword → Bool
 is_of K.Lincat (Some K.Lincat) = true
