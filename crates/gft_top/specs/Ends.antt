@@ -64,17 +64,22 @@ pub record IsHeldUp (old new : Place) (left : Option (List ℕ)) (bytes : List �
   pub within : count new ≤ input_limit
 
 -- what a turn did where these bytes are still to be cut into lines
-abbrev pub TurnsTold : Option Modules → Place → Place → Option (List ℕ) → Option (List ℕ) → Option (List ℕ) → List ℕ → Turn → Type 0
+abbrev pub TurnsTold : Option Modules → Place → Place → Option (List ℕ) → Option (List ℕ) → Option (List ℕ) → List ℕ → Turn
+    → Type 0
 TurnsTold session old new left held holds bytes (Replied refused) =
-    Passes old new left bytes × ((reply : Reply) × IsReply session (first_line bytes) reply × (refused ≡ reply.refused) × Told (Appends reply.text) held holds)
+    Passes old new left bytes
+    × ((reply : Reply) × IsReply session (first_line bytes) reply × (refused ≡ reply.refused)
+    × Told (Appends reply.text) held holds)
 TurnsTold session old new left held holds bytes (Ended Done) = (bytes ≡ []) × Pends new left [] × Told Same held holds
 TurnsTold session old new left held holds bytes (Ended SomeRefused) = ⊥
 TurnsTold session old new left held holds bytes (Ended Usage) = ⊥
 TurnsTold session old new left held holds bytes (Ended Status.ReadFault) = IsHeldUp old new left bytes × Told Same held holds
 TurnsTold session old new left held holds bytes (Ended WriteFault) =
-    Passes old new left bytes × ((reply : Reply) × IsReply session (first_line bytes) reply × Told (AppendsPart reply.text) held holds)
+    Passes old new left bytes
+    × ((reply : Reply) × IsReply session (first_line bytes) reply × Told (AppendsPart reply.text) held holds)
 TurnsTold session old new left held holds bytes (Ended Status.NoMemory) = Told Same held holds
-TurnsTold session old new left held holds bytes (Ended Status.InputLimit) = (input_limit < old.passed + line_size bytes) × Told Same held holds
+TurnsTold session old new left held holds bytes (Ended Status.InputLimit) =
+    (input_limit < old.passed + line_size bytes) × Told Same held holds
 
 -- these lines were replied to, each whole
 pub record IsReplied (session : Option Modules) (lines : List (List ℕ)) (held holds : Option (List ℕ)) : Type 0 where
@@ -83,7 +88,8 @@ pub record IsReplied (session : Option Modules) (lines : List (List ℕ)) (held 
   pub written : Told (Appends (bytes_of replies)) held holds
 
 -- all lines of the input were replied to, and the input was read to its end
-pub record IsAnswered (session : Option Modules) (input : List ℕ) (refused : Bool) (held holds left : Option (List ℕ)) (some_refused : Bool) : Type 0 where
+pub record IsAnswered (session : Option Modules) (input : List ℕ) (refused : Bool) (held holds left : Option (List ℕ))
+    (some_refused : Bool) : Type 0 where
   pub replied : IsReplied session (lines_of input) held holds
   pub flag : (refused || has_refusal replied.replies) ≡ some_refused
   pub read : left ≡ Some []
@@ -136,7 +142,8 @@ abbrev pub LinesTold : Option Modules → List ℕ → Bool → Option (List ℕ
 LinesTold session input refused held holds left Done = IsAnswered session input refused held holds left false
 LinesTold session input refused held holds left SomeRefused = IsAnswered session input refused held holds left true
 LinesTold session input refused held holds left Usage = ⊥
-LinesTold session input refused held holds left Status.ReadFault = (lines : List (List ℕ)) × IsReadTo input left lines × IsReplied session lines held holds
+LinesTold session input refused held holds left Status.ReadFault =
+    (lines : List (List ℕ)) × IsReadTo input left lines × IsReplied session lines held holds
 LinesTold session input refused held holds left WriteFault = IsBroken session input held holds
 LinesTold session input refused held holds left Status.NoMemory = IsBegun session input held holds
 LinesTold session input refused held holds left Status.InputLimit =
@@ -150,16 +157,19 @@ LinesAny before after sink_before sink_after taken_before taken_after Usage = �
 LinesAny before after sink_before sink_after taken_before taken_after Status.ReadFault = Rose before after
 LinesAny before after sink_before sink_after taken_before taken_after WriteFault = Rose sink_before sink_after
 LinesAny before after sink_before sink_after taken_before taken_after Status.NoMemory = Unit {0}
-LinesAny before after sink_before sink_after taken_before taken_after Status.InputLimit = (n : ℕ) × (input_limit < n) × (taken_after ≡ raised taken_before n)
+LinesAny before after sink_before sink_after taken_before taken_after Status.InputLimit =
+    (n : ℕ) × (input_limit < n) × (taken_after ≡ raised taken_before n)
 
 -- the replies of a session over that file and these lines were written, each whole
-pub record IsWritten (Faulted : Type 0) (files : Files) (file : List ℕ) (lines : List (List ℕ)) (held holds : Option (List ℕ)) : Type 0 where
+pub record IsWritten (Faulted : Type 0) (files : Files) (file : List ℕ) (lines : List (List ℕ)) (held holds : Option (List ℕ))
+    : Type 0 where
   pub replies : List Reply
   pub are : IsOutput Faulted files file lines replies
   pub written : Told (Appends (bytes_of replies)) held holds
 
 -- a whole session: what was written, and whether some reply is a refusal
-pub record IsWhole (Faulted : Type 0) (files : Files) (file input : List ℕ) (held holds left : Option (List ℕ)) (some_refused : Bool) : Type 0 where
+pub record IsWhole (Faulted : Type 0) (files : Files) (file input : List ℕ) (held holds left : Option (List ℕ))
+    (some_refused : Bool) : Type 0 where
   pub output : IsWritten Faulted files file (lines_of input) held holds
   pub flag : has_refusal output.replies ≡ some_refused
   pub read : left ≡ Some []
@@ -205,7 +215,8 @@ UsageTold held holds Status.NoMemory = ⊥
 UsageTold held holds Status.InputLimit = ⊥
 
 -- how a run ends: a session over its file, or a wrong call
-abbrev pub RunTold : Type 0 → Files → Option (List ℕ) → List ℕ → Option (List ℕ) → Option (List ℕ) → Option (List ℕ) → Status → Type 0
+abbrev pub RunTold : Type 0 → Files → Option (List ℕ) → List ℕ → Option (List ℕ) → Option (List ℕ) → Option (List ℕ) → Status
+    → Type 0
 RunTold Faulted files (Some file) input held holds left status = SessionTold Faulted files file input held holds left status
 RunTold Faulted files None input held holds left status = UsageTold held holds status
 
@@ -221,5 +232,6 @@ UsageAny sink_before sink_after Status.InputLimit = ⊥
 
 -- the causes of the end of a run, over any source and any sink
 abbrev pub RunAny : Option (List ℕ) → ℕ → ℕ → ℕ → ℕ → ℕ → ℕ → Status → Type 0
-RunAny (Some file) before after sink_before sink_after taken_before taken_after status = LinesAny before after sink_before sink_after taken_before taken_after status
+RunAny (Some file) before after sink_before sink_after taken_before taken_after status =
+    LinesAny before after sink_before sink_after taken_before taken_after status
 RunAny None before after sink_before sink_after taken_before taken_after status = UsageAny sink_before sink_after status

@@ -66,7 +66,9 @@ accepted_import a c = record { reply = accepted a.name c.name; modules = Some (r
 
 -- what two modules that are there give
 abbrev pub Joins : AbstractModule → ConcreteModule → List ℕ → Import → Type 0
-Joins a c file made = ((fits a c ≡ true) × (made ≡ accepted_import a c)) ⊎ ((fits a c ≡ false) × (made ≡ refused_import (codes "NotBuilt") file))
+Joins a c file made =
+    ((fits a c ≡ true) × (made ≡ accepted_import a c))
+    ⊎ ((fits a c ≡ false) × (made ≡ refused_import (codes "NotBuilt") file))
 
 -- what the import of a concrete module that is there gives
 abbrev pub ImportsBeside : Type 0 → Files → List ℕ → ConcreteModule → Import → Type 0
@@ -92,4 +94,5 @@ spoken lins tree = record { text = joined (words_said lins tree) ++ 10 ∷ []; r
 abbrev pub IsSaid : Modules → List ℕ → Option Reply → Type 0
 IsSaid m line None = (t : Tree) → Linearizes line t → category_of (functions_of m.abs.funs) t ≡ None
 IsSaid m line (Some reply) =
-    (t : Tree) × Linearizes line t × ((cat : List ℕ) × (category_of (functions_of m.abs.funs) t ≡ Some cat)) × (reply ≡ spoken m.con.lins t)
+    (t : Tree) × Linearizes line t × ((cat : List ℕ) × (category_of (functions_of m.abs.funs) t ≡ Some cat))
+    × (reply ≡ spoken m.con.lins t)

@@ -56,7 +56,8 @@ IsAbstractSource base text a = IsAbstractText text a × (is_abstract_file base a
 pub data IsNotLoaded (Faulted : Type 0) (files : Files) (file : List ℕ) : List ℕ → Type 0 where
   failed : Faulted → IsNotLoaded Faulted files file (codes "CannotRead")
   missing : get files file ≡ None → IsNotLoaded Faulted files file (codes "MissingFile")
-  too_long : (text : List ℕ) → get files file ≡ Some text → source_limit < length text → IsNotLoaded Faulted files file (codes "NotBuilt")
+  too_long : (text : List ℕ) → get files file ≡ Some text → source_limit < length text
+      → IsNotLoaded Faulted files file (codes "NotBuilt")
 
 -- the file has this text, which is not too long
 pub record IsLoaded (files : Files) (file text : List ℕ) : Type 0 where
