@@ -145,7 +145,7 @@ module _ (S : Sources) (determined : IsDetermined S) where
   file_once : {state : State} {b c : List ℕ} → IsFileOf S state b → IsFileOf S state c → b ≡ c
   file_once (g, StandsFor.loaded {held} e x, b) (h, StandsFor.loaded f y, c) =
       let concretes = zip_once (compiled_once held.abs) held.languages g.concretes h.concretes x y in
-      sym b ∙ ap (λ a. file_bytes a g.concretes) (e ∙ sym f) ∙ ap (file_bytes h.abs) concretes ∙ c
+      sym b.bytes_are ∙ ap (λ a. file_bytes a g.concretes) (e ∙ sym f) ∙ ap (file_bytes h.abs) concretes ∙ c.bytes_are
 
   -- WHAT A PIPE DOES
 

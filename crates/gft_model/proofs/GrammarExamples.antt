@@ -99,10 +99,10 @@ alone_is_grammar = record {
 }
 
 -- its bytes are read as it, it has no flaw, and other bytes are not its own
-abbrev tiny : Grammar
+abbrev pub tiny : Grammar
 tiny = record { abs = abs; concretes = eng ∷ []; in_range = refl }
 
-tiny_is_read : Reads (file_bytes abs (eng ∷ [])) tiny
+pub tiny_is_read : Reads (file_bytes abs (eng ∷ [])) tiny
 tiny_is_read = record { grammar = tiny_is_grammar; bytes_are = refl }
 
 tiny_has_no_flaw : (flaw : Flaw) (at : ℕ) → ¬ IsFlawed abs (eng ∷ []) flaw at

@@ -5,7 +5,6 @@ use Rattle.std.specs.FinMap.{insert}
 use Rattle.std.specs.Fmt.{digits}
 use Rattle.std.specs.Str.{chars}
 use lib.Utf8
-use Rattle.gft_pmcfg.specs.declared.grammar.Grammar.{Grammar}
 use Rattle.gft_io.specs.Outside.{Files}
 use Rattle.gft_rules.specs.declared.refusal.Refusal.{Refusal}
 use Rattle.gft_rules.specs.declared.rule.Rule.TheVariants.{NoGrammar}
@@ -17,6 +16,7 @@ use Rattle.gft_model.specs.Shell as shell
 use Rattle.gft_model.specs.States.{Sources, State, Kept, added, StandsFor, loaded, of_file, file}
 use Rattle.gft_model.proofs.CommandExamples as lines
 use Rattle.gft_model.proofs.CommandExamples.{empty}
+use Rattle.gft_model.proofs.GrammarExamples.{tiny, tiny_is_read}
 use Rattle.gft_model.proofs.Tiny.{abs, eng}
 
 -- a command without options, other than those that need a grammar, lacks nothing
@@ -59,10 +59,7 @@ pub quits_first : (S : Sources) (held : Held) (reads : List Read)
     (record { reply = []; refused = false; ends = true; after = held })
 quits_first S held reads = last (done (lacks_nothing (λ i m q. q refl) refl) (quits (alone Quit Nothing))) refl
 
--- the grammar of one sentence
-abbrev tiny : Grammar
-tiny = record { abs = abs; concretes = eng ∷ []; in_range = refl }
-
+-- a session with the grammar of one sentence
 abbrev tiny_state : State
 tiny_state = Some (record { abs = abs; languages = (codes "TE", of_file eng) ∷ [] })
 
@@ -85,7 +82,7 @@ tiny_written : (S : Sources) (files : Files) → Does S (record { state = tiny_s
     (codes "wrote T.gft 133 bytes" ∷ []))
 unfolding digits
 tiny_written S files =
-    writes (alone WritePortable (commands.Files (codes "T.gft" ∷ []))) (tiny, loaded refl (file refl, tt), refl) (omega arith)
+    writes (alone WritePortable (commands.Files (codes "T.gft" ∷ []))) (tiny, loaded refl (file refl, tt), tiny_is_read) (omega arith)
 
 -- a compiled grammar does not stand for the empty state
 tiny_is_not_empty : (S : Sources) → ¬ StandsFor S (Some tiny) None

@@ -12,7 +12,7 @@ use Rattle.gft_rules.specs.declared.rule.Rule.TheVariants.{NoGrammar, NoLanguage
 use Rattle.gft_model.specs.AbstractInfo.{judgement_lines}
 use Rattle.gft_model.specs.Commands.{Verb, Import, Empty, Quit, AbstractInfo, WritePortable, Argument, Nothing, Name, Command, Read, Pipe, Refused, refusal, keys_of, ReadsLine}
 use Rattle.gft_model.specs.Commands as argument
-use Rattle.gft_model.specs.PortableFile.{file_of}
+use Rattle.gft_model.specs.PortableFile.{Reads}
 use Rattle.gft_model.specs.Replies.{Item, line_of, category_for, languages_for, Runs, item_of}
 use Rattle.gft_model.specs.States.{Kept, Loaded, State, Sources, IsImported, Joins, StandsFor}
 
@@ -83,9 +83,9 @@ followed a b =
     record { reply = a.reply ++ b.reply; refused = a.refused || b.refused; ends = b.ends; after = b.after }
 
 module _ (S : Sources) where
-  -- the bytes of the portable file of a state
+  -- the bytes of the portable file of a state, which are read as the grammar that stands for it
   abbrev pub IsFileOf : State → List ℕ → Type 0
-  IsFileOf state bytes = (g : Grammar) × StandsFor S (Some g) state × (file_of g ≡ bytes)
+  IsFileOf state bytes = (g : Grammar) × StandsFor S (Some g) state × Reads bytes g
 
   -- what the commands of a pipe do, where the state lacks nothing for them
   pub data Does (held : Held) (cs : List Command) : Answer → Type 0 where
