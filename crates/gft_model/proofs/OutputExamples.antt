@@ -1,13 +1,13 @@
 -- Worked examples of whole runs.
-use Rattle.std.proofs.Common.{refl, ℕ, List, [], ◌∷◌, ◌++◌, true, arith}
-use Rattle.std.specs.Prelude.{codes}
+use Rattle.std.proofs.Common.{refl, ap, ◌∙◌, ℕ, List, [], ◌∷◌, ◌++◌, true, arith, ⊎_elim, length-append}
+use Rattle.std.specs.Prelude.{codes, length}
 use Rattle.std.specs.Fmt.{digits}
 use Rattle.std.specs.Str.{chars}
 use lib.Utf8
 use Rattle.gft_io.specs.Outside.{Files}
 use Rattle.gft_model.specs.Commands as commands
-use Rattle.gft_model.specs.Commands.{Quit, Nothing, Pipe, command}
-use Rattle.gft_model.specs.Output.{none, a_file, only_files, an_out, an_out_is, a_count, Mode, make, Asks, for_session, to_make, for_workload, usage_line, plain, Output, wrong_call, counted, lines, quit, next}
+use Rattle.gft_model.specs.Commands.{Import, Quit, Nothing, Pipe, AreFileNames, of_import, source_ending, portable_ending, command}
+use Rattle.gft_model.specs.Output.{none, a_file, only_files, an_out, an_out_is, a_count, Mode, make, Asks, for_session, to_make, for_workload, usage_line, plain, bad_name, Output, wrong_call, counted, lines, file_lines, end, quit, next}
 use Rattle.gft_model.specs.Shell as shell
 use Rattle.gft_model.specs.States.{Sources}
 use Rattle.gft_model.proofs.ShellExamples.{quits_first}
@@ -43,6 +43,20 @@ sentences : (S : Sources) (input : List ℕ) (files : Files) → Output S (gfs �
     ∷ []) files)
 unfolding digits
 sentences S input files = counted (for_workload (a_count refl none) refl)
+
+-- a file name of another ending is refused, and the session goes on to its lines
+other_ending : ¬ AreFileNames Import (codes "a" ∷ [])
+other_ending (of_import ends) = ⊎_elim {C = ⊥} (λ e. absurd (omega (arith, ap length e.1 ∙ length-append e.0 source_ending)))
+    (λ e. absurd (omega (arith, ap length e.1 ∙ length-append e.0 portable_ending))) (ends 0 [] (omega arith))
+
+refused_file : (S : Sources) (files : Files) → Output S (gfs ∷ codes "a" ∷ []) [] files (record {
+  replies = (codes "refused BadArgument" ++ 10 ∷ []) ∷ [];
+  refused = true;
+  failures = 0;
+  files = files;
+})
+refused_file S files =
+    file_lines (for_session (a_file refl none)) (record { pipe = _; is = bad_name other_ending; steps = shell.refused }) end
 
 -- a session without files: the line behind `quit` is not answered
 short : (S : Sources) (files : Files) → Output S (gfs ∷ []) (codes "frob" ++ 10 ∷ codes "q" ++ 10 ∷ codes "e") files

@@ -11,7 +11,7 @@ use Rattle.gft_rules.specs.declared.rule.Rule.TheVariants.{NoGrammar}
 use Rattle.gft_model.specs.Commands as commands
 use Rattle.gft_model.specs.Commands.{Verb, Import, Empty, Quit, Parse, WritePortable, Argument, Nothing, Words, Read, Pipe, command, refusal, keys_of}
 use Rattle.gft_model.specs.PortableFile.{file_of}
-use Rattle.gft_model.specs.Shell.{Held, grammar_line, Answer, refusing, replying, no_grammar, no_language, no_such_language, no_such_category, LacksFirst, here, later, IsAlone, Does, empties, quits, writes, PipeSteps, done, lacking, AllSteps, none, last, more, read, IsAnswer}
+use Rattle.gft_model.specs.Shell.{Held, grammar_line, Answer, refusing, replying, no_grammar, no_language, no_such_language, no_such_category, LacksFirst, here, later, IsAlone, Does, empties, quits, writes, PipeSteps, done, lacking, save_failed, AllSteps, none, last, more, read, IsAnswer}
 use Rattle.gft_model.specs.Shell as shell
 use Rattle.gft_model.specs.States.{Sources, State, Kept, added, StandsFor, loaded, of_file, file}
 use Rattle.gft_model.proofs.CommandExamples as lines
@@ -83,6 +83,18 @@ tiny_written : (S : Sources) (files : Files) → Does S (record { state = tiny_s
 unfolding digits
 tiny_written S files =
     writes (alone WritePortable (commands.Files (codes "T.gft" ∷ []))) (tiny, loaded refl (file refl, tt), tiny_is_read) (omega arith)
+
+-- where the save fails, the state stays and the reply names the file; here its content is as before
+tiny_not_saved : (S : Sources) (files : Files) → PipeSteps S (record { state = tiny_state; files = files })
+    (Pipe (command WritePortable [] (commands.Files (codes "T.gft" ∷ [])) ∷ [])) 1 (record {
+      reply = codes "refused CannotWrite: T.gft" ++ 10 ∷ [];
+      refused = true;
+      ends = false;
+      after = record { state = tiny_state; files = files };
+    })
+tiny_not_saved S files =
+    save_failed (alone WritePortable (commands.Files (codes "T.gft" ∷ []))) (tiny, loaded refl (file refl, tt), tiny_is_read)
+    (omega arith) (λ name other. refl)
 
 -- a compiled grammar does not stand for the empty state
 tiny_is_not_empty : (S : Sources) → ¬ StandsFor S (Some tiny) None
