@@ -2,14 +2,17 @@
 use Rattle.std.proofs.Common.{◌≡◌, ◌≢◌, refl, sym, ap, ◌∙◌, subst, ℕ, ◌<◌, ◌≤◌, List, [], ◌∷◌, true, false, arith, length, flat_map}
 use Rattle.std.specs.Option.{unwrap_or}
 use Rattle.gft_rules.specs.declared.rule.Rule.TheVariants.{NoSuchLanguage, NoSuchCategory, UnknownName, PortableTooLong}
-use Rattle.std.specs.Prelude.{map, Option, Some, None, Result, Ok, Err, bytes_eq}
+use Rattle.std.specs.Cmp.{eq_by_cmp_equiv}
+use Rattle.std.specs.Cmp.Lexicographic.{nat_list_cmp_total}
+use Rattle.std.specs.Prelude.{map, Option, Some, None, Result, Ok, Err, bytes_eq, if◌then◌else◌}
 use Rattle.std.specs.List.{AllZip}
 use Rattle.std.specs.Str.{chars}
 use Rattle.gft_io.specs.Outside.{Files}
 use Rattle.gft_pmcfg.specs.declared.concrete.Concrete.{Concrete}
+use Rattle.gft_pmcfg.specs.declared.grammar.Grammar.{Grammar}
 use Rattle.gft_rules.specs.declared.refusal.Refusal.{Refusal}
-use Rattle.gft_model.specs.Commands.{Verb, Import, Empty, Quit, AbstractInfo, WritePortable, Argument, Nothing, Name, Command, refusal, InTurn, Read, Pipe, Refused}
-use Rattle.std.specs.FinMap.{insert}
+use Rattle.gft_model.specs.Commands.{Verb, Import, Empty, Quit, AbstractInfo, WritePortable, Argument, Nothing, Name, Command, refusal, InTurn, Read, Pipe, Refused, EndsIn, portable_ending}
+use Rattle.std.specs.FinMap.{get, insert, get-insert}
 use Rattle.gft_model.specs.AbstractInfo.{judgement_lines}
 use Rattle.gft_pmcfg.specs.declared.signature.Abstract.{Abstract}
 use Rattle.gft_model.specs.Commands as argument
@@ -17,10 +20,25 @@ use Rattle.gft_model.specs.PortableFile.{file_bytes}
 use Rattle.gft_model.specs.Replies.{Item, a_text, Makes, parsed, completed, too_long, linearized, unsolved, passed, Parses, Completes, Runs, done, next, refused, AreTexts, languages_for, item_of, line_of}
 use Rattle.gft_model.specs.Shell.{Held, Answer, Lacks, no_grammar, no_language, no_such_language, no_such_category, LacksFirst, here, later, IsAlone, IsFileOf, Does, PipeSteps, AllSteps, Steps, IsAnswer, followed, replying, refusing, grammar_line, portable_limit, wrote_line}
 use Rattle.gft_syntax.specs.declared.flat.Flat.{Flat}
-use Rattle.gft_model.specs.States.{Kept, Loaded, State, Sources, Gives, IsImported, Joins, IsCompiled, StandsFor, language_of, added}
+use Rattle.gft_model.specs.States.{Kept, Loaded, State, Sources, Gives, IsImported, Joins, IsCompiled, StandsFor, language_of, added, kept_grammar}
 use Rattle.gft_model.proofs.CommandLaws.{in_turn_once, zip_once, line_once}
 use Rattle.gft_model.proofs.ReplyLaws.{parses_once, completes_once, texts_once}
 use Rattle.gft_model.proofs.UnsolvedLaws.{reason_once}
+
+-- WHAT A SESSION WRITES
+
+-- what was just written is found
+get_inserted : (files : Files) (name bytes : List ℕ) → get (insert files name bytes) name ≡ Some bytes
+get_inserted files name bytes =
+    get-insert nat_list_cmp_total files name bytes name
+    ∙ ap (λ b. if b then Some bytes else get files name) ((eq_by_cmp_equiv nat_list_cmp_total).refl name)
+
+-- the file of a state gives the grammar that stands for it
+pub written_given : (S : Sources) (state : State) (files : Files) (names : List (List ℕ)) (name bytes : List ℕ)
+    → EndsIn portable_ending name → IsFileOf S state bytes
+    → (g : Grammar) × StandsFor S (Some g) state × Gives S (insert files name bytes) names name (kept_grammar g)
+written_given S state files names name bytes ends (g, stands, read) =
+    (g, stands, Gives.portable g ends (get_inserted files name bytes) read)
 
 -- WHAT A COMMAND MAKES OF AN ITEM
 

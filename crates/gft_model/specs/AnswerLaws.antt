@@ -1,18 +1,20 @@
 -- Laws of command lines and answers.
-use Rattle.std.specs.Prelude.{◌≡◌, ℕ, List}
+use Rattle.std.specs.FinMap.{insert}
+use Rattle.std.specs.Prelude.{◌≡◌, ℕ, List, Some}
 use Rattle.gft_core.specs.declared.tree.Tree.{Tree}
 use Rattle.gft_pmcfg.specs.declared.signature.Abstract.{Abstract}
 use Rattle.gft_pmcfg.specs.declared.concrete.Concrete.{Concrete}
+use Rattle.gft_pmcfg.specs.declared.grammar.Grammar.{Grammar}
 use Rattle.gft_syntax.specs.declared.flat.Flat.{Flat}
 use Rattle.gft_io.specs.Outside.{Files}
-use Rattle.gft_model.specs.Commands.{Read, ReadsLine}
+use Rattle.gft_model.specs.Commands.{Read, ReadsLine, EndsIn, portable_ending}
 use Rattle.gft_model.specs.Import.{GivesPart, sources}
 use Rattle.gft_model.specs.Compiled.{Compiles}
 use Rattle.gft_model.specs.Loading.{HasFiles}
 use Rattle.gft_model.specs.Output.{Written, Output}
 use Rattle.gft_model.specs.Replies.{Item, Parses, Completes, AreTexts}
-use Rattle.gft_model.specs.Shell.{Held, Answer, IsAnswer}
-use Rattle.gft_model.specs.States.{Kept, Loaded, language_of}
+use Rattle.gft_model.specs.Shell.{Held, Answer, IsAnswer, IsFileOf}
+use Rattle.gft_model.specs.States.{Kept, Loaded, State, Sources, language_of, Gives, StandsFor, kept_grammar}
 
 -- the characters of a line are read in at most one way
 abbrev pub LineIsReadOnce : Type 0
@@ -42,24 +44,36 @@ TextsAreDetermined =
     (a : Abstract) (l : List ℕ × Kept) (cat : ℕ) (t : Tree) (texts others : List (List (List ℕ)))
     → AreTexts (language_of a cat l) t texts → AreTexts (language_of a cat l) t others → texts ≡ others
 
--- imports and compilation of sources are determined: the loaded files of an import, what a source gives in it, and what a
--- language compiles to
+-- the portable file of a state gives, in an import, the grammar that stands for the state
+abbrev pub WrittenIsGiven : Type 0
+WrittenIsGiven =
+    (state : State) (files : Files) (names : List (List ℕ)) (name bytes : List ℕ) → EndsIn portable_ending name
+    → IsFileOf sources state bytes → (g : Grammar) × StandsFor sources (Some g) state
+    × Gives sources (insert files name bytes) names name (kept_grammar g)
+
+-- the imports of the language, where one is chosen of the resolved grammars of each named source: their entries may stand in
+-- any order
+abbrev pub choosing : (Files → List (List ℕ) → List ℕ → Loaded) → Sources
+choosing choose = record sources {
+  gives = λ files names name part. GivesPart files names name part × (part ≡ choose files names name);
+}
+
+-- imports and compilation are determined but for this choice: the loaded files of an import, and what a language compiles to
 pub record AreDetermined : Type 0 where
   pub one_list : (files : Files) (names loaded others : List (List ℕ)) → HasFiles files names loaded
       → HasFiles files names others → loaded ≡ others
-  pub one_part : (files : Files) (names : List (List ℕ)) (name : List ℕ) (p q : Loaded) → GivesPart files names name p
-      → GivesPart files names name q → p ≡ q
   pub one_compiled : (a : Abstract) (flat : Flat) (name : List ℕ) (c d : Concrete) → Compiles a flat name c
       → Compiles a flat name d → c ≡ d
 
 -- where they are, a session has at most one answer to a line in which no load or save fails
 abbrev pub SessionAnswersOnce : Type 0
 SessionAnswersOnce =
-    AreDetermined → (held : Held) (line : List ℕ) (x y : Answer) → IsAnswer sources held line x
-    → IsAnswer sources held line y → x ≡ y
+    AreDetermined → (choose : Files → List (List ℕ) → List ℕ → Loaded) (held : Held) (line : List ℕ) (x y : Answer)
+    → IsAnswer (choosing choose) held line x → IsAnswer (choosing choose) held line y → x ≡ y
 
 -- and a run in which none fails at most one output
 abbrev pub OutputIsDetermined : Type 0
 OutputIsDetermined =
-    AreDetermined → (words : List (List ℕ)) (input : List ℕ) (files : Files) (w v : Written)
-    → Output sources words input files w → w.failures ≡ 0 → Output sources words input files v → v.failures ≡ 0 → w ≡ v
+    AreDetermined → (choose : Files → List (List ℕ) → List ℕ → Loaded) (words : List (List ℕ)) (input : List ℕ)
+    (files : Files) (w v : Written) → Output (choosing choose) words input files w → w.failures ≡ 0
+    → Output (choosing choose) words input files v → v.failures ≡ 0 → w ≡ v

@@ -65,11 +65,15 @@ pub record Sources : Type 1 where
   -- the concrete syntax that a language of a resolved source compiles to, over an abstract part
   pub compiles : Abstract → Flat → List ℕ → Concrete → Type 0
 
+-- a grammar of a portable file, as it is kept
+abbrev pub kept_grammar : Grammar → Loaded
+kept_grammar g = record { abs = g.abs; languages = map (λ (c : Concrete). (c.name, of_file c)) g.concretes }
+
 -- what a named file gives in an import
 pub data Gives (S : Sources) (files : Files) (names : List (List ℕ)) (name : List ℕ) : Loaded → Type 0 where
   source : {part : Loaded} → EndsIn source_ending name → S.gives files names name part → Gives S files names name part
   portable : {bytes : List ℕ} (g : Grammar) → EndsIn portable_ending name → get files name ≡ Some bytes → Reads bytes g
-      → Gives S files names name (record { abs = g.abs; languages = map (λ (c : Concrete). (c.name, of_file c)) g.concretes })
+      → Gives S files names name (kept_grammar g)
 
 -- what an accepted import gives: the one abstract part of its files, and the languages of all, of which a later one
 -- stands in place of an earlier one of its name

@@ -1,5 +1,5 @@
 //! Laws of command lines and answers. Each function does nothing; its clause is the law.
-ghost use Rattle.gft_model.specs.AnswerLaws.{LineIsRead, LineIsReadOnce, ParseAnswersOnce, CompleteAnswersOnce, TextsAreDetermined, SessionAnswersOnce, OutputIsDetermined};
+ghost use Rattle.gft_model.specs.AnswerLaws.{LineIsRead, LineIsReadOnce, ParseAnswersOnce, CompleteAnswersOnce, TextsAreDetermined, SessionAnswersOnce, OutputIsDetermined, WrittenIsGiven};
 
 /// Every line is read, each of its pipes as commands or as a refusal.
 pub fn line_is_read()
@@ -26,14 +26,20 @@ pub fn texts_are_determined()
     ensures { TextsAreDetermined }
 {}
 
+/// A portable file that a session writes gives, in an import, the grammar that stands for the session's
+/// state.
+pub fn written_file_is_given()
+    ensures { WrittenIsGiven }
+{}
+
 /// A session has at most one answer to a line in which no load or save fails, where imports and
-/// compilation are determined.
+/// compilation are determined and of the resolved grammars of each source one is chosen.
 pub fn session_answers_once()
     ensures { SessionAnswersOnce }
 {}
 
 /// A run in which no load or save fails writes at most one output, where imports and compilation are
-/// determined.
+/// determined and of the resolved grammars of each source one is chosen.
 pub fn output_is_determined()
     ensures { OutputIsDetermined }
 {}
