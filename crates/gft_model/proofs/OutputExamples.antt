@@ -20,6 +20,16 @@ makes : Asks (gfs ∷ codes "A.gf" ∷ codes "--make=T.gft" ∷ codes "--" ∷ c
     (make (codes "T.gft") (codes "A.gf" ∷ codes "-b.gf" ∷ []))
 makes = to_make (a_file refl (an_out_is only_files))
 
+-- a hyphen alone may be an option's value, and two hyphens may not
+hyphen : Asks (gfs ∷ codes "--make" ∷ codes "-" ∷ codes "A.gf" ∷ []) (make (codes "-") (codes "A.gf" ∷ []))
+hyphen = to_make (an_out refl (a_file refl none))
+
+hyphens : {mode : Mode} → ¬ Asks (gfs ∷ codes "--make" ∷ codes "--" ∷ codes "A.gf" ∷ []) mode
+hyphens (for_session (a_file is d)) = cc
+hyphens (to_make (a_file is d)) = cc
+hyphens (to_make (an_out is d)) = cc
+hyphens (for_workload d count) = elim d [ ]
+
 -- `--make` without files is a wrong call
 no_files : {mode : Mode} → ¬ Asks (gfs ∷ codes "--make" ∷ codes "T.gft" ∷ []) mode
 no_files (for_session (a_file is d)) = cc

@@ -7,7 +7,7 @@ use Rattle.std.specs.Str.{chars}
 use lib.Utf8
 use Rattle.gft_io.specs.Outside.{Files}
 use Rattle.gft_rules.specs.declared.refusal.Refusal.{Refusal}
-use Rattle.gft_rules.specs.declared.rule.Rule.TheVariants.{NoGrammar}
+use Rattle.gft_rules.specs.declared.rule.Rule.TheVariants.{NoGrammar, NoSuchLanguage}
 use Rattle.gft_model.specs.Commands as commands
 use Rattle.gft_model.specs.Commands.{Verb, Import, Empty, Quit, Parse, WritePortable, Argument, Nothing, Words, Read, Pipe, command, refusal, keys_of}
 use Rattle.gft_model.specs.PortableFile.{file_of}
@@ -62,6 +62,12 @@ quits_first S held reads = last (done (lacks_nothing (λ i m q. q refl) refl) (q
 -- a session with the grammar of one sentence
 abbrev tiny_state : State
 tiny_state = Some (record { abs = abs; languages = (codes "TE", of_file eng) ∷ [] })
+
+-- the language is looked for before the category, which is not there either
+language_first : LacksFirst tiny_state
+    (record { verb = Parse; lang = Some (codes "A"); cat = Some (codes "B"); depth = None; argument = Words [] } ∷ [])
+    (refusal NoSuchLanguage (codes "A" ∷ []))
+language_first = here (no_such_language refl (λ e. cc) refl refl)
 
 -- the line of its import, and of one without languages
 imported : grammar_line (record { abs = abs; languages = (codes "TE", of_file eng) ∷ [] }) ≡ codes "grammar T languages TE"
