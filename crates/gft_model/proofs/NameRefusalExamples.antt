@@ -17,6 +17,7 @@ use Rattle.gft_syntax.specs.declared.term.Local.TheVariants.{Value}
 use Rattle.gft_syntax.specs.declared.term.Term.{Term, roll-Term}
 use Rattle.gft_syntax.specs.declared.term.Term.TheOpen as T
 use Rattle.gft_syntax.specs.declared.term.Term.TheFolds.{para-roll-Term, map-Term}
+use Rattle.gft_syntax.specs.declared.term.Term.TheViews.{out-roll-Term}
 use Rattle.gft_model.specs.Modules.{Is, Has, declares, inherits, keeps, instantiates, HasNameable, from_opened, Declared, own, own_text, module_of, inherited_of, judgements_of, declared_names}
 use Rattle.gft_model.specs.NameFaults
 use Rattle.gft_model.specs.Refusals.{refusal, sooner, later_on}
@@ -121,3 +122,28 @@ module _ (t e : Term) where
   pub mk_means_something : NameFaults.Means mods amb_eng None mk
   mk_means_something =
       (own (codes "R1") 0, NameFaults.bare_meaning (from_opened refl (λ f h. not_had f h.has) (0, omega arith, refl) (mk_of (codes "R1") refl)))
+
+  -- lin b = (Nope).x: what is before the dot is used at its own place, after the parenthesis
+  abbrev use_of_nope : Judgement
+  use_of_nope =
+      J.Lin (record { name = codes "b"; place = here 4 7 } ∷ []) []
+      (roll-Term (T.Proj (roll-Term (T.Var (Written (codes "Nope")) (here 4 12))) (codes "x") (here 4 11)))
+
+  dotted_site : (constructors : List ℕ → Bool) → NameFaults.sites_of constructors use_of_nope
+      ≡ NameFaults.a_dotted_name (codes "Nope") (here 4 12) (codes "x") (here 4 11) ∷ []
+  dotted_site constructors = simp (sites-roll, out-roll-Term)
+
+  has_dotted_site : (constructors : List ℕ → Bool) → Contains (NameFaults.sites_of constructors use_of_nope)
+      (NameFaults.a_dotted_name (codes "Nope") (here 4 12) (codes "x") (here 4 11))
+  has_dotted_site constructors =
+      subst (λ ss. Contains ss (NameFaults.a_dotted_name (codes "Nope") (here 4 12) (codes "x") (here 4 11))) (sym (dotted_site constructors))
+      (0, omega arith, refl)
+
+  pub used_alone : (constructors : List ℕ → Bool) → ¬ (NameFaults.Opens mods amb_eng (codes "Nope")) →
+      NameFaults.Uses mods amb_eng constructors use_of_nope None (codes "Nope") (here 4 12)
+  used_alone constructors not_opened = NameFaults.before_dot (has_dotted_site constructors) not_opened
+
+  -- where Nope is a module, it is the name x at the parenthesis
+  pub used_qualified : (constructors : List ℕ → Bool) → NameFaults.Opens mods amb_eng (codes "Nope") →
+      NameFaults.Uses mods amb_eng constructors use_of_nope (Some (codes "Nope")) (codes "x") (here 4 11)
+  used_qualified constructors opened = NameFaults.qualified_use (has_dotted_site constructors) opened

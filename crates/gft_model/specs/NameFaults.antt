@@ -34,12 +34,12 @@ use Rattle.gft_model.specs.Resolution.{Locals, is_local}
 use Rattle.gft_model.specs.TermParts.{Part as TermPart, parts, patterns_in, judgement_parts}
 use Rattle.gft_model.specs.TypeForms.{predef_named}
 
--- what stands in a judgement for the resolution of names, where no local variable has the name: x, Q.x,
--- a variable where a type must stand, a reserved word without what must follow it; and the pattern of a
+-- what stands in a judgement for the resolution of names, where no local variable has the name: x, Q.x with the place
+-- of Q itself too, a variable where a type must stand, a reserved word without what must follow it; and the pattern of a
 -- branch with the variables around it
 pub data Site : Type 0 where
   a_name : List ℕ → Place → Site
-  a_dotted_name : List ℕ → List ℕ → Place → Site
+  a_dotted_name : List ℕ → Place → List ℕ → Place → Site
   a_variable_type : List ℕ → Place → Site
   a_word : List ℕ → Place → Site
   a_branch : Locals → Pattern → Site
@@ -94,7 +94,7 @@ part_sites constructors xs p =
 
 -- what is before the dot: Q of Q.x, Predef before one of its functions, or a term
 abbrev pub dotted_sites : Layer → List ℕ → Place → Locals → List Site → List Site
-dotted_sites (T.Var (Written Q) p) x place xs within = if is_local Q xs then [] else a_dotted_name Q x place ∷ []
+dotted_sites (T.Var (Written Q) p) x place xs within = if is_local Q xs then [] else a_dotted_name Q p x place ∷ []
 dotted_sites (T.Sort Sort-V.Predef p) x place xs within = elim (predef_named x) [ None ↦ within | Some f ↦ [] ]
 dotted_sites d x place xs within = within
 
@@ -197,10 +197,10 @@ module _ (mods : List Module) (m : Module) where
   -- a name that is used in the judgement at a place: x, or Q.x, where no variable has the name
   pub data Uses (constructors : List ℕ → Bool) (j : Judgement) : Option (List ℕ) → List ℕ → Place → Type 0 where
     alone : {x : List ℕ} {p : Place} → Contains (sites_of constructors j) (a_name x p) → Uses constructors j None x p
-    before_dot : {Q x : List ℕ} {p : Place} → Contains (sites_of constructors j) (a_dotted_name Q x p) → ¬ (Opens Q) →
-        Uses constructors j None Q p
-    qualified_use : {Q x : List ℕ} {p : Place} → Contains (sites_of constructors j) (a_dotted_name Q x p) → Opens Q →
-        Uses constructors j (Some Q) x p
+    before_dot : {Q x : List ℕ} {p whole : Place} → Contains (sites_of constructors j) (a_dotted_name Q p x whole) →
+        ¬ (Opens Q) → Uses constructors j None Q p
+    qualified_use : {Q x : List ℕ} {p whole : Place} → Contains (sites_of constructors j) (a_dotted_name Q p x whole) →
+        Opens Q → Uses constructors j (Some Q) x whole
 
   -- a pattern within a branch of the judgement, with the variables around that
   abbrev pub HasPattern : (List ℕ → Bool) → Judgement → Locals → Pattern → Type 0
