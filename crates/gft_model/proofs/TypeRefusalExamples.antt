@@ -142,3 +142,10 @@ pub two_is_left_out : TypeFaults.BreaksTypes exh [] (whole (codes "t")) oper_t (
 two_is_left_out =
     subst (λ p. TypeFaults.BreaksTypes exh [] (whole (codes "t")) oper_t (2 ∷ []) (refusal R.NotExhaustive p (codes "Two" ∷ []))) place_of_table
     (subst (λ x. TypeFaults.BreaksTypes exh [] (whole (codes "t")) oper_t (2 ∷ []) (refusal R.NotExhaustive (place_of table_term) (x ∷ []))) text_of_two found_there)
+
+-- table {} ! "a": a table without a branch that is selected from, of which no type is found
+abbrev empty_table : Term
+empty_table = roll-Term (T.TableOf None [] (here 4 11))
+
+pub no_branch_to_find : TypeFaults.BreaksTerm exh [] empty_table (TypingSites.over str_type) TypingSites.selected R.NoType []
+no_branch_to_find = TypeFaults.no_first_branch (ap (λ d. TypeFaults.empty_mode d (TypingSites.over str_type)) (form-roll _))

@@ -52,6 +52,7 @@ abbrev pub empty_mode : Layer → Mode → Option Mode
 empty_mode (T.CaseOf e [] place) m = Some m
 empty_mode (T.TableOf (Some t) [] place) m = Some (value_mode m)
 empty_mode (T.TableList t [] place) m = Some (value_mode m)
+empty_mode (T.TableOf None [] place) (over A) = Some found
 empty_mode d m = None
 
 -- a form that may be a type: a name, a sort, Ints n, labels, and the types of functions, tables and pairs
