@@ -22,6 +22,7 @@ use Rattle.gft_model.specs.ConcreteTyping.{IsType, Stands, a_parameter, an_oper,
 use Rattle.gft_model.specs.Flats.{AreMeanings, whole_of}
 use Rattle.gft_model.specs.HeaderFaults.{placed_names}
 use Rattle.gft_model.specs.Items.{Item, alternative}
+use Rattle.gft_model.specs.JudgementOrder.{answered}
 use Rattle.gft_model.specs.Matching.{same_whole}
 use Rattle.gft_model.specs.Modules.{Has, HasNameable, Writes, Declared, copy, main_name}
 use Rattle.gft_model.specs.Refusals.{Moment, refusal, name_moment}
@@ -89,12 +90,13 @@ module _ (mods : List Module) (m : Module) (flat : Flat) where
         AllZip (IsType (items flat)) (alternative_types w (items flat)) Bs → As ≢ Bs → HasAnotherType w names (alternatives ts)
     no_parameter_type : ¬ (GivesParameter w) → HasAnotherType w names a_parameter_type
 
-  -- the turns of a declared type and of its comparison: once the own judgement is typed; of an inherited one, after
-  -- all own judgements, by name
+  -- the turns of a declared type and of its comparison: once the own judgement is typed, by its names in order; of an
+  -- inherited one, after all own judgements, by name
   pub data TurnOf (order : List FlatJudgement) (w : Whole) : Moment → Moment → Type 0 where
-    own_turn : {k : ℕ} {f : FlatJudgement} → slice_get order k ≡ Some f → f.whole ≡ w →
-        TurnOf order w (k ∷ suc (length (judgement_sites w.«module» w.name f.judgement)) ∷ []) (k ∷ [])
-    inherited_turn : ((f : FlatJudgement) → Contains order f → f.whole ≢ w) →
+    own_turn : {k i : ℕ} {f : FlatJudgement} → slice_get order k ≡ Some f → slice_get (answered None f) i ≡ Some w →
+        TurnOf order w (k ∷ suc (length (judgement_sites w.«module» w.name f.judgement)) ∷ i ∷ 0 ∷ [])
+        (k ∷ suc (length (judgement_sites w.«module» w.name f.judgement)) ∷ i ∷ 1 ∷ [])
+    inherited_turn : ((f : FlatJudgement) → Contains order f → ¬ (Contains (answered None f) w)) →
         TurnOf order w (length order ∷ name_moment w.name ++ 0 ∷ []) (length order ∷ name_moment w.name ++ 1 ∷ [])
 
   -- the types that are declared
