@@ -1,5 +1,5 @@
 -- Faults of types and indices in an abstract judgement.
-use Rattle.std.specs.Prelude.{◌≡◌, ℕ, suc, ◌+◌, List, [], ◌∷◌, ◌++◌, map, length, take, Bool, true, false, ◌⊎◌, codes, Contains, Option, Some, None, ◌≢◌, slice_get}
+use Rattle.std.specs.Prelude.{◌≡◌, ℕ, suc, ◌+◌, List, [], ◌∷◌, ◌++◌, map, length, Bool, true, false, ◌⊎◌, codes, Contains, Option, Some, None, ◌≢◌, slice_get}
 use Rattle.gft_core.specs.Words.{IsWord}
 use Rattle.gft_core.specs.declared.place.Place.{Place}
 use Rattle.gft_core.specs.declared.tree.Tree.{Tree, roll-Tree, fold-Tree}
@@ -43,21 +43,22 @@ indexed_at ts A = record { category = A.category; indices = map (filled (value_o
 abbrev pub indexed_text : Indexed → List ℕ
 indexed_text A = A.category ++ as_arguments (map (fold-Tree Printed index_step) A.indices)
 
--- the variables of a judgement with their numbers and types, and how many arguments there are so far
+-- the variables of a judgement with their numbers and types, where these can be read, and how many arguments there
+-- are so far
 pub record Arguments : Type 0 where
   pub count : ℕ
-  pub variables : List (List ℕ × (ℕ × Indexed))
+  pub variables : List (List ℕ × (ℕ × Option Indexed))
 
 abbrev pub no_arguments : Arguments
 no_arguments = record { count = 0; variables = [] }
 
 -- one more argument of the type
-abbrev pub with_argument : Bind → Indexed → Arguments → Arguments
+abbrev pub with_argument : Bind → Option Indexed → Arguments → Arguments
 with_argument (Variable x place) A Γ = record { count = suc Γ.count; variables = (x, (suc Γ.count, A)) ∷ Γ.variables }
 with_argument (Nothing place) A Γ = record { count = suc Γ.count; variables = Γ.variables }
 
 -- one for each variable, or one where none is named
-abbrev pub with_arguments_of : List Bind → Indexed → Arguments → Arguments
+abbrev pub with_arguments_of : List Bind → Option Indexed → Arguments → Arguments
 with_arguments_of [] A Γ = record { count = suc Γ.count; variables = Γ.variables }
 with_arguments_of (x ∷ []) A Γ = with_argument x A Γ
 with_arguments_of (x ∷ y ∷ xs) A Γ = with_arguments_of (y ∷ xs) A (with_argument x A Γ)
@@ -167,88 +168,98 @@ module _ (cats funs : List FlatJudgement) (LeftOut : Whole → Type 0) where
     of_variable : {x : List ℕ} → TakesArguments (Written x) 0
 
   mutual
-    -- a term is the type
-    pub data ReadsType : Arguments → Term → Indexed → Type 0 where
-      indexed : {Γ : Arguments} {e h : Term} {es : List Term} {w : Whole} {As : List Indexed} {ts : List Tree} → Spine e [] h es →
-          head_name (out-Term h) ≡ Some (WholeName w) → HasContext w As → IndicesAre Γ es [] As ts →
-          ReadsType Γ e (record { category = w.name; indices = ts })
-      built_in : {Γ : Arguments} {e : Term} {x : List ℕ} {p : Place} → out-Term e ≡ T.Var (Written x) p →
-          IsBuiltIn Γ (Written x) →
-          ReadsType Γ e (record { category = x; indices = [] })
+    -- a term is the tree, as an index
+    pub data IsIndex (Γ : Arguments) : Term → Tree → Type 0 where
+      variable : {e : Term} {x : List ℕ} {p : Place} {k : ℕ} {A : Option Indexed} →
+          out-Term e ≡ T.Var (Written x) p → field_of x Γ.variables ≡ Some (k, A) → IsIndex Γ e (roll-Tree (Tree-F.Hole k))
+      number : {e : Term} {n : ℕ} {p : Place} → out-Term e ≡ T.Num n p → IsIndex Γ e (roll-Tree (Tree-F.Int n))
+      text : {e : Term} {s : List ℕ} {p : Place} → out-Term e ≡ T.Lit s p → IsWord s → IsIndex Γ e (roll-Tree (Tree-F.Str s))
+      application : {e h : Term} {es : List Term} {w : Whole} {p : Place} {ts : List Tree} → Spine e [] h es →
+          out-Term h ≡ T.Var (WholeName w) p → IsFunction w → AreIndices Γ es ts → IsIndex Γ e (roll-Tree (Tree-F.App w.name ts))
 
-    -- the types of a context: the arguments so far, those with it, and its types
-    pub data ReadsContext : Arguments → List Context → Arguments → List Indexed → Type 0 where
-      no_context : {Γ : Arguments} → ReadsContext Γ [] Γ []
-      more_context : {Γ Δ : Arguments} {c : Context} {cs : List Context} {A : Indexed} {As : List Indexed} →
-          ReadsType Γ c.of_type A →
-          ReadsContext (with_arguments_of c.binds A Γ) cs Δ As → ReadsContext Γ (c ∷ cs) Δ (for_each c.binds A ++ As)
+    pub data AreIndices (Γ : Arguments) : List Term → List Tree → Type 0 where
+      no_index : AreIndices Γ [] []
+      one_index : {e : Term} {es : List Term} {t : Tree} {ts : List Tree} → IsIndex Γ e t → AreIndices Γ es ts →
+          AreIndices Γ (e ∷ es) (t ∷ ts)
 
-    -- the types of the indices of a category
-    pub data HasContext : Whole → List Indexed → Type 0 where
-      its_context : {w : Whole} {n : PlacedName} {cs : List Context} {Γ : Arguments} {As : List Indexed} →
-          Declares cats w (J.Cat n cs) →
-          ReadsContext no_arguments cs Γ As → HasContext w As
-      of_a_list : {w : Whole} {n : PlacedName} {r : Reference} {k : ℕ} {p : Place} → Declares cats w (J.ListCat n r k p) →
-          HasContext w []
+  -- a term is the type, as it is written
+  pub data ReadsType (Γ : Arguments) (e : Term) : Indexed → Type 0 where
+    indexed : {h : Term} {es : List Term} {w : Whole} {ts : List Tree} → Spine e [] h es →
+        head_name (out-Term h) ≡ Some (WholeName w) → IsCategory w → AreIndices Γ es ts →
+        ReadsType Γ e (record { category = w.name; indices = ts })
+    built_in : {x : List ℕ} {p : Place} → out-Term e ≡ T.Var (Written x) p → IsBuiltIn Γ (Written x) →
+        ReadsType Γ e (record { category = x; indices = [] })
 
-    -- a term is the type of a function
-    pub data ReadsFunction : Arguments → Term → List Indexed → Indexed → Type 0 where
-      takes : {Γ : Arguments} {e a b : Term} {xs : List Bind} {p : Place} {A B : Indexed} {As : List Indexed} →
-          out-Term e ≡ T.Arrow xs a b p →
-          ReadsType Γ a A → ReadsFunction (with_arguments_of xs A Γ) b As B → ReadsFunction Γ e (for_each xs A ++ As) B
-      gives : {Γ : Arguments} {e : Term} {B : Indexed} → ReadsType Γ e B → ReadsFunction Γ e [] B
+  -- the type that it is, where it can be read
+  pub data MayRead (Γ : Arguments) (e : Term) : Option Indexed → Type 0 where
+    read : {A : Indexed} → ReadsType Γ e A → MayRead Γ e (Some A)
+    not_read : ((A : Indexed) → ¬ (ReadsType Γ e A)) → MayRead Γ e None
 
-    -- the types of a function's arguments and of its result
-    pub data HasSignature : Whole → List Indexed → Indexed → Type 0 where
-      its_type : {w : Whole} {ns : List PlacedName} {t : Term} {As : List Indexed} {B : Indexed} → Declares funs w (J.Fun ns t) →
-          ReadsFunction no_arguments t As B → HasSignature w As B
-      of_list_function : {w : Whole} {n : PlacedName} {r : Reference} {k : ℕ} {p : Place} → Declares funs w (J.ListCat n r k p) →
-          HasSignature w (map (λ C. record { category = C; indices = [] }) (signature_given w.name (J.ListCat n r k p)).arguments)
-          (record { category = list_name (name_of r); indices = [] })
+  -- the types of a context
+  pub data ReadsContext : Arguments → List Context → List Indexed → Type 0 where
+    no_context : {Γ : Arguments} → ReadsContext Γ [] []
+    more_context : {Γ : Arguments} {c : Context} {cs : List Context} {A : Indexed} {As : List Indexed} →
+        ReadsType Γ c.of_type A →
+        ReadsContext (with_arguments_of c.binds (Some A) Γ) cs As → ReadsContext Γ (c ∷ cs) (for_each c.binds A ++ As)
 
-    -- a term is the tree, as an index, and has the type
-    pub data IndexIs : Arguments → Term → Tree → Indexed → Type 0 where
-      variable : {Γ : Arguments} {e : Term} {x : List ℕ} {p : Place} {k : ℕ} {A : Indexed} →
-          out-Term e ≡ T.Var (Written x) p → field_of x Γ.variables ≡ Some (k, A) →
-          IndexIs Γ e (roll-Tree (Tree-F.Hole k)) A
-      number : {Γ : Arguments} {e : Term} {n : ℕ} {p : Place} → out-Term e ≡ T.Num n p →
-          IndexIs Γ e (roll-Tree (Tree-F.Int n)) (record { category = codes "Int"; indices = [] })
-      text : {Γ : Arguments} {e : Term} {s : List ℕ} {p : Place} → out-Term e ≡ T.Lit s p → IsWord s →
-          IndexIs Γ e (roll-Tree (Tree-F.Str s)) (record { category = codes "String"; indices = [] })
-      application : {Γ : Arguments} {e h : Term} {es : List Term} {w : Whole} {p : Place} {As : List Indexed} {B : Indexed}
-          {ts : List Tree} → Spine e [] h es →
-          out-Term h ≡ T.Var (WholeName w) p → HasSignature w As B → IndicesAre Γ es [] As ts →
-          IndexIs Γ e (roll-Tree (Tree-F.App w.name ts)) (indexed_at ts B)
+  -- the types of the indices of a category
+  pub data HasContext (w : Whole) : List Indexed → Type 0 where
+    its_context : {n : PlacedName} {cs : List Context} {As : List Indexed} → Declares cats w (J.Cat n cs) →
+        ReadsContext no_arguments cs As → HasContext w As
+    of_a_list : {n : PlacedName} {r : Reference} {k : ℕ} {p : Place} → Declares cats w (J.ListCat n r k p) → HasContext w []
 
-    -- terms are the trees, of the types, of which each is over the trees before it
-    pub data IndicesAre : Arguments → List Term → List Tree → List Indexed → List Tree → Type 0 where
-      no_index : {Γ : Arguments} {before : List Tree} → IndicesAre Γ [] before [] []
-      one_index : {Γ : Arguments} {e : Term} {es : List Term} {t : Tree} {before ts : List Tree} {A : Indexed} {As : List Indexed} →
-          IndexIs Γ e t (indexed_at before A) →
-          IndicesAre Γ es (before ++ t ∷ []) As ts → IndicesAre Γ (e ∷ es) before (A ∷ As) (t ∷ ts)
+  -- a term is the type of a function
+  pub data ReadsFunction : Arguments → Term → List Indexed → Indexed → Type 0 where
+    takes : {Γ : Arguments} {e a b : Term} {xs : List Bind} {p : Place} {A B : Indexed} {As : List Indexed} →
+        out-Term e ≡ T.Arrow xs a b p →
+        ReadsType Γ a A → ReadsFunction (with_arguments_of xs (Some A) Γ) b As B → ReadsFunction Γ e (for_each xs A ++ As) B
+    gives : {Γ : Arguments} {e : Term} {B : Indexed} → ReadsType Γ e B → ReadsFunction Γ e [] B
+
+  -- the types of a function's arguments and of its result
+  pub data HasSignature (w : Whole) : List Indexed → Indexed → Type 0 where
+    its_type : {ns : List PlacedName} {t : Term} {As : List Indexed} {B : Indexed} → Declares funs w (J.Fun ns t) →
+        ReadsFunction no_arguments t As B → HasSignature w As B
+    of_list_function : {n : PlacedName} {r : Reference} {k : ℕ} {p : Place} → Declares funs w (J.ListCat n r k p) →
+        HasSignature w (map (λ C. record { category = C; indices = [] }) (signature_given w.name (J.ListCat n r k p)).arguments)
+        (record { category = list_name (name_of r); indices = [] })
+
+  -- the type of an index, by the signatures of variables and functions as they are written
+  pub data IndexHas (Γ : Arguments) (e : Term) : Indexed → Type 0 where
+    by_variable : {x : List ℕ} {p : Place} {k : ℕ} {A : Indexed} →
+        out-Term e ≡ T.Var (Written x) p → field_of x Γ.variables ≡ Some (k, Some A) → IndexHas Γ e A
+    by_number : {n : ℕ} {p : Place} → out-Term e ≡ T.Num n p → IndexHas Γ e (record { category = codes "Int"; indices = [] })
+    by_text : {s : List ℕ} {p : Place} → out-Term e ≡ T.Lit s p → IndexHas Γ e (record { category = codes "String"; indices = [] })
+    by_application : {h : Term} {es : List Term} {w : Whole} {p : Place} {As : List Indexed} {B : Indexed} {ts : List Tree} →
+        Spine e [] h es → out-Term h ≡ T.Var (WholeName w) p → HasSignature w As B → AreIndices Γ es ts →
+        IndexHas Γ e (indexed_at ts B)
 
   -- the type that the next index of the application f must have, where f is a type or not
   pub data Expects (Γ : Arguments) : Bool → Term → Indexed → Type 0 where
     by_category : {f h : Term} {es : List Term} {w : Whole} {As : List Indexed} {A : Indexed} {ts : List Tree} → Spine f [] h es →
-        head_name (out-Term h) ≡ Some (WholeName w) → HasContext w As → IndicesAre Γ es [] (take (length es) As) ts →
+        head_name (out-Term h) ≡ Some (WholeName w) → HasContext w As → AreIndices Γ es ts →
         slice_get As (length es) ≡ Some A → Expects Γ true f (indexed_at ts A)
     by_function : {f h : Term} {es : List Term} {w : Whole} {As : List Indexed} {A B : Indexed} {ts : List Tree} →
         Spine f [] h es →
-        head_name (out-Term h) ≡ Some (WholeName w) → HasSignature w As B → IndicesAre Γ es [] (take (length es) As) ts →
+        head_name (out-Term h) ≡ Some (WholeName w) → HasSignature w As B → AreIndices Γ es ts →
         slice_get As (length es) ≡ Some A → Expects Γ false f (indexed_at ts A)
+
+  -- the arguments after contexts
+  pub data AfterContexts : Arguments → List Context → Arguments → Type 0 where
+    after_none : {Γ : Arguments} → AfterContexts Γ [] Γ
+    after_one : {Γ Δ : Arguments} {c : Context} {cs : List Context} {A : Option Indexed} → MayRead Γ c.of_type A →
+        AfterContexts (with_arguments_of c.binds A Γ) cs Δ → AfterContexts Γ (c ∷ cs) Δ
 
   -- a term of the judgement, where it stands
   pub data StandsIn (j : Judgement) : Moment → Arguments → Term → Role → Type 0 where
     function_type : {ns : List PlacedName} {t : Term} → j ≡ J.Fun ns t → StandsIn j (1 ∷ []) no_arguments t type_role
-    in_context : {n : PlacedName} (before : List Context) (c : Context) (after : List Context) {Γ : Arguments}
-        {As : List Indexed} →
-        j ≡ J.Cat n (before ++ c ∷ after) → ReadsContext no_arguments before Γ As →
+    in_context : {n : PlacedName} (before : List Context) (c : Context) (after : List Context) {Γ : Arguments} →
+        j ≡ J.Cat n (before ++ c ∷ after) → AfterContexts no_arguments before Γ →
         StandsIn j (suc (length before) ∷ []) Γ c.of_type argument_role
     argument : {path : Moment} {Γ : Arguments} {e a b : Term} {r : Role} {xs : List Bind} {p : Place} → StandsIn j path Γ e r →
         is_type_role r ≡ true → out-Term e ≡ T.Arrow xs a b p → StandsIn j (path ++ 1 ∷ []) Γ a argument_role
-    result : {path : Moment} {Γ : Arguments} {e a b : Term} {r : Role} {xs : List Bind} {p : Place} {A : Indexed} →
+    result : {path : Moment} {Γ : Arguments} {e a b : Term} {r : Role} {xs : List Bind} {p : Place} {A : Option Indexed} →
         StandsIn j path Γ e r →
-        is_type_role r ≡ true → out-Term e ≡ T.Arrow xs a b p → ReadsType Γ a A →
+        is_type_role r ≡ true → out-Term e ≡ T.Arrow xs a b p → MayRead Γ a A →
         StandsIn j (path ++ 2 ∷ []) (with_arguments_of xs A Γ) b type_role
     head : {path : Moment} {Γ : Arguments} {e f a : Term} {r : Role} {p : Place} → StandsIn j path Γ e r →
         out-Term e ≡ T.App f a p →
@@ -287,8 +298,7 @@ module _ (cats funs : List FlatJudgement) (LeftOut : Whole → Type 0) where
         is_index_role r ≡ true → is_head r ≡ false →
         Spine e [] h es → out-Term h ≡ T.Var n p → TakesArguments n k → length es ≢ k →
         BreaksIndexed Γ e r R.Arity (name_of n ∷ [])
-    index_of_another_type : {f : Term} {is_type : Bool} {t : Tree} {A B : Indexed} → Expects Γ is_type f A →
-        IndexIs Γ e t B → A ≢ B →
+    index_of_another_type : {f : Term} {is_type : Bool} {A B : Indexed} → Expects Γ is_type f A → IndexHas Γ e B → A ≢ B →
         BreaksIndexed Γ e (index_role is_type f) R.IndexType (indexed_text A ∷ indexed_text B ∷ [])
 
   -- what is broken in the types of an abstract judgement
@@ -301,3 +311,5 @@ module _ (cats funs : List FlatJudgement) (LeftOut : Whole → Type 0) where
     list_of_indexed : {n : PlacedName} {r : Reference} {k m : ℕ} {p : Place} → j ≡ J.ListCat n r k p →
         TakesIndices no_arguments r (suc m) →
         BreaksAbstract j (0 ∷ []) (refusal R.Arity n.place (n.name ∷ []))
+    list_left_out : {n : PlacedName} {r : Reference} {k : ℕ} {p : Place} → j ≡ J.ListCat n r k p →
+        ((w : Whole) → ¬ (Declares cats w j)) → BreaksAbstract j (1 ∷ []) (refusal R.UnknownCat p (list_name n.name ∷ []))
