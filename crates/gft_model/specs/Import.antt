@@ -12,7 +12,7 @@ use Rattle.gft_model.specs.Flats.{AreExactly, HasEntry, HasSomewhere, HasLineari
 use Rattle.gft_model.specs.HeaderFaults.{BreaksHeader, Redefines}
 use Rattle.gft_model.specs.InstanceFaults.{BreaksInstance}
 use Rattle.gft_model.specs.Items.{items_of}
-use Rattle.gft_model.specs.JudgementOrder.{Turns, IsListed, AreEntries, typed_again, Listing}
+use Rattle.gft_model.specs.JudgementOrder.{Turns, IsListed, AreMet, AreEntries, typed_again, Listing}
 use Rattle.gft_model.specs.JudgementTyping.{IsTyped}
 use Rattle.gft_model.specs.Loading.{base_of, Loading, loaded, refused, LoadsNamed, nothing_loaded, HasFiles}
 use Rattle.gft_model.specs.Modules.{header_name, module_named, judgements_of}
@@ -54,8 +54,8 @@ module _ (mods : List Module) where
   abbrev pub entries_of : Flat → List FlatJudgement
   entries_of flat = flat.cats ++ flat.funs ++ flat.params ++ flat.opers ++ flat_map (λ c. c.judgements) flat.concretes
 
-  -- the judgements of a module in the order in which they are typed: copies and own ones by their turns,
-  -- then those that are inherited, where they are typed again
+  -- the judgements of a module in the order in which they are typed: copies and own ones by their turns, with
+  -- what they rest on of interfaces and incomplete modules, then those that are inherited, where they are typed again
   pub record HasOrder (m : Module) (es funs : List FlatJudgement) (order again : List FlatJudgement) : Type 0 where
     pub inherited : Listing
     pub copies : Listing
@@ -64,7 +64,11 @@ module _ (mods : List Module) where
     pub own_entries : List FlatJudgement
     pub are_own : AreEntries mods (abstract_name m.header) (copies ++ owned) own_entries
     pub are_inherited : AreEntries mods (abstract_name m.header) inherited again
-    pub turns : Turns es funs own_entries [] own_entries order
+    pub met : Listing
+    pub are_met : AreMet mods mods met
+    pub met_entries : List FlatJudgement
+    pub are_their_entries : AreEntries mods None met met_entries
+    pub turns : Turns es funs (own_entries ++ met_entries) [] own_entries order
 
   -- a function that a module leaves out of what it inherits
   abbrev pub LeftOut : List FlatJudgement → Whole → Type 0

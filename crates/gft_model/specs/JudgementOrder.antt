@@ -1,5 +1,6 @@
 -- The order in which the judgements of a module are typed.
-use Rattle.std.specs.Prelude.{◌≡◌, ℕ, suc, List, [], ◌∷◌, ◌++◌, map, flat_map, filter, Bool, true, false, Contains, Option, Some, None}
+use Rattle.std.specs.Prelude.{◌≡◌, ℕ, suc, List, [], ◌∷◌, ◌++◌, map, flat_map, filter, Bool, true, false, ◌||◌, Contains, Option, Some, None}
+use Rattle.std.specs.List.{list_any}
 use Rattle.gft_syntax.specs.declared.flat.FlatJudgement.{FlatJudgement}
 use Rattle.gft_syntax.specs.declared.judgement.Judgement.{Judgement}
 use Rattle.gft_syntax.specs.declared.judgement.Judgement.TheVariants as J
@@ -14,9 +15,9 @@ use Rattle.gft_syntax.specs.declared.module.Substitution.{Substitution}
 use Rattle.gft_syntax.specs.declared.reference.PlacedName.{PlacedName}
 use Rattle.gft_syntax.specs.declared.reference.Whole.{Whole}
 use Rattle.gft_model.specs.Flats.{IsEntry}
-use Rattle.gft_model.specs.HeaderFaults.{sort_of}
+use Rattle.gft_model.specs.HeaderFaults.{is_incomplete, is_interface, sort_of}
 use Rattle.gft_model.specs.JudgementTyping.{list_name, Signature, signature_in}
-use Rattle.gft_model.specs.Modules.{Is, Has, Writes, OwnName, Declared, own, copy, inherited_of, inherited_name, lets_through, judgements_of, declared_names, is_undefined, main_name}
+use Rattle.gft_model.specs.Modules.{Is, Has, Writes, OwnName, Declared, own, copy, header_name, inherited_of, inherited_name, lets_through, judgements_of, declared_names, is_undefined, main_name}
 use Rattle.gft_model.specs.NameFaults.{Lacks}
 use Rattle.gft_model.specs.Resting.{named_by, names_in}
 use Rattle.gft_model.specs.TermParts.{judgement_parts}
@@ -80,6 +81,12 @@ typed_names (J.ListCat n r k place) = list_name n.name ∷ []
 typed_names (J.Param n cs) = n.name ∷ []
 typed_names j = declared_names j
 
+-- the names with which it is let through: any of a parameter type, and of a list category
+abbrev pub names_with : Judgement → List ℕ → List (List ℕ)
+names_with (J.ListCat n r k place) x = declared_names (J.ListCat n r k place)
+names_with (J.Param n cs) x = declared_names (J.Param n cs)
+names_with j x = x ∷ []
+
 -- judgements under their names, the first being that number of the module's own
 abbrev pub Listing : Type 0
 Listing = List (List ℕ × Declared)
@@ -101,6 +108,14 @@ module _ (mods : List Module) where
         ¬ ((j : Judgement) × Writes mods d j × (is_undefined j ≡ false) × ¬ (OwnName mods m (main_name j x))) → Kept m es ks →
         Kept m ((x, d) ∷ es) ks
 
+  -- what a restriction lets through, in the same order
+  pub data LetThrough (h : Inherited) : Listing → Listing → Type 0 where
+    no_judgement : LetThrough h [] []
+    let_through : {x : List ℕ} {d : Declared} {j : Judgement} {es ks : Listing} → Writes mods d j →
+        list_any (lets_through h) (names_with j x) ≡ true → LetThrough h es ks → LetThrough h ((x, d) ∷ es) ((x, d) ∷ ks)
+    held_back : {x : List ℕ} {d : Declared} {j : Judgement} {es ks : Listing} → Writes mods d j →
+        list_any (lets_through h) (names_with j x) ≡ false → LetThrough h es ks → LetThrough h ((x, d) ∷ es) ks
+
   mutual
     -- what a module has, in order: inherited, then copies, then its own; and these three lists
     pub data IsListed : List ℕ → Listing → Listing → Listing → Type 0 where
@@ -109,20 +124,29 @@ module _ (mods : List Module) where
 
     pub data Inherits : List Inherited → Listing → Type 0 where
       no_module : Inherits [] []
-      from_module : {h : Inherited} {hs : List Inherited} {is cs os rest : Listing} →
-          IsListed (inherited_name h) is cs os → Inherits hs rest →
-          Inherits (h ∷ hs) (filter (λ e. lets_through h e.0) (is ++ cs ++ os) ++ rest)
+      from_module : {h : Inherited} {hs : List Inherited} {is cs os ks rest : Listing} →
+          IsListed (inherited_name h) is cs os → LetThrough h (is ++ cs ++ os) ks → Inherits hs rest →
+          Inherits (h ∷ hs) (ks ++ rest)
 
     pub data Copies : List ℕ → Module → Listing → Type 0 where
       of_interface : {M : List ℕ} {m : Module} {n i : PlacedName} {is cs os ks : Listing} → m.header ≡ Instance n i →
           IsListed i.name is cs os → Kept m (is ++ cs ++ os) ks →
           Copies M m (copied M ks)
       of_functor : {M : List ℕ} {m : Module} {hs : List Inherited} {f : Inherited} {ss : List Substitution} {b : Option Body}
-          {is cs os : Listing} → m.rest ≡ With hs f ss b →
-          IsListed (inherited_name f) is cs os → Copies M m (copied M (filter (λ e. lets_through f e.0) (is ++ cs ++ os)))
+          {is cs os ks : Listing} → m.rest ≡ With hs f ss b →
+          IsListed (inherited_name f) is cs os → LetThrough f (is ++ cs ++ os) ks → Copies M m (copied M ks)
       no_copies : {M : List ℕ} {m : Module} → ((n i : PlacedName) → ¬ (m.header ≡ Instance n i)) →
           ((hs : List Inherited) (f : Inherited) (ss : List Substitution) (b : Option Body) →
           ¬ (m.rest ≡ With hs f ss b)) → Copies M m []
+
+  -- the judgements of interfaces and incomplete modules, which are typed where a judgement rests on them
+  pub data AreMet : List Module → Listing → Type 0 where
+    no_other : AreMet [] []
+    typed_there : {m : Module} {ms : List Module} {ls : Listing} → (is_interface m.header || is_incomplete m.header) ≡ false →
+        AreMet ms ls → AreMet (m ∷ ms) ls
+    met_elsewhere : {m : Module} {ms : List Module} {is cs os ls : Listing} →
+        (is_interface m.header || is_incomplete m.header) ≡ true → IsListed (header_name m.header).name is cs os →
+        AreMet ms ls → AreMet (m ∷ ms) (cs ++ os ++ ls)
 
   -- a linearization whose name the abstract module lacks is ignored
   abbrev pub Ignored : Option (List ℕ) → List ℕ → Declared → Type 0
