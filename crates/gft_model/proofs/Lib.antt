@@ -78,6 +78,7 @@ pub mod LineReadings
 pub mod RefusalExamples
 pub mod CompileRefusalExamples
 pub mod NameRefusalExamples
+pub mod AbstractRefusalExamples
 pub mod TypeRefusalExamples
 pub mod RefusalOrder
 pub mod UnsolvedExamples
