@@ -1,5 +1,5 @@
 -- A worked example of abstract types that name each other: cat C (x : C c) ; fun c : C c, read as they are written.
-use Rattle.std.proofs.Common.{◌≡◌, ap, ◌∙◌, refl, ℕ, List, [], ◌∷◌, Some, None, arith}
+use Rattle.std.proofs.Common.{ap, refl, ℕ, List, [], ◌∷◌, arith}
 use Rattle.std.specs.Prelude.{codes}
 use Rattle.gft_core.specs.declared.place.Place.{Place}
 use Rattle.gft_core.specs.declared.tree.Tree.{Tree, roll-Tree}

@@ -17,7 +17,7 @@ use Rattle.gft_syntax.specs.declared.reference.Whole.{Whole}
 use Rattle.gft_model.specs.Flats.{IsEntry}
 use Rattle.gft_model.specs.HeaderFaults.{is_incomplete, is_interface, sort_of}
 use Rattle.gft_model.specs.JudgementTyping.{list_name, Signature, signature_in}
-use Rattle.gft_model.specs.Modules.{Is, Has, Writes, OwnName, Declared, own, copy, header_name, inherited_of, inherited_name, lets_through, judgements_of, declared_names, is_undefined, main_name}
+use Rattle.gft_model.specs.Modules.{Is, Writes, OwnName, Declared, own, copy, header_name, inherited_of, inherited_name, lets_through, judgements_of, declared_names, is_undefined, main_name}
 use Rattle.gft_model.specs.NameFaults.{Lacks}
 use Rattle.gft_model.specs.Resting.{named_by, names_in}
 use Rattle.gft_model.specs.TermParts.{judgement_parts}
