@@ -199,6 +199,8 @@ module _ (flat : Flat) where
 
     -- what is broken at a term once its parts were looked at
     pub data BreaksTerm : Rule → List (List ℕ) → Type 0 where
+      undefined_parameter : {v : Whole} {p : Place} → form e ≡ T.Var (WholeName v) p → Contains (items flat) (bare_parameter v) →
+          BreaksTerm R.Unknown (v.name ∷ [])
       no_first_branch : empty_mode (form e) (term_mode m) ≡ Some found → BreaksTerm R.NoType []
       found_does_not_fit : {A B : CType} → Given m A → passes (form e) (out-CType A) ≡ false → FoundFor flat e Γ B →
           ((t : LinTerm) → ¬ (Checks (items flat) Γ e A t)) → BreaksTerm R.Mismatch (type_text A ∷ type_text B ∷ [])
@@ -311,8 +313,6 @@ module _ (flat : Flat) where
         j ≡ J.Oper ns (x ∷ xs) (D.Overload ds) →
         BreaksTypes lang w j (0 ∷ 1 ∷ []) (refusal R.NoType (bind_place x) [])
     in_sites : {at : Moment} {r : Refusal} → BreaksSites (judgement_sites lang w.name j) at r → BreaksTypes lang w j at r
-    undefined_definition : {e : Term} {v : Whole} {p : Place} → unwritten j ≡ Some e → form e ≡ T.Var (WholeName v) p →
-        Contains (items flat) (bare_parameter v) → BreaksTypes lang w j (1 ∷ []) (refusal R.Unknown (place_of e) (v.name ∷ []))
     at_definition : {e : Term} {S : CType} {rule : Rule} {names : List (List ℕ)} → unwritten j ≡ Some e →
         FoundFor flat e [] S → IsSort S →
         BreaksSort [] e S rule names → BreaksTypes lang w j (1 ∷ []) (refusal rule (place_of e) names)
