@@ -228,14 +228,16 @@ module _ (cats funs : List FlatJudgement) (LeftOut : Whole → Type 0) where
     by_variable : {x : List ℕ} {p : Place} {k : ℕ} {A : Indexed} →
         out-Term e ≡ T.Var (Written x) p → field_of x Γ.variables ≡ Some (k, Some A) → IndexHas Γ e A
     by_number : {n : ℕ} {p : Place} → out-Term e ≡ T.Num n p → IndexHas Γ e (record { category = codes "Int"; indices = [] })
-    by_text : {s : List ℕ} {p : Place} → out-Term e ≡ T.Lit s p → IndexHas Γ e (record { category = codes "String"; indices = [] })
+    by_text : {s : List ℕ} {p : Place} → out-Term e ≡ T.Lit s p →
+        IndexHas Γ e (record { category = codes "String"; indices = [] })
     by_application : {h : Term} {es : List Term} {w : Whole} {p : Place} {As : List Indexed} {B : Indexed} {ts : List Tree} →
         Spine e [] h es → out-Term h ≡ T.Var (WholeName w) p → HasSignature w As B → AreIndices Γ es ts →
         IndexHas Γ e (indexed_at ts B)
 
   -- the type that the next index of the application f must have, where f is a type or not
   pub data Expects (Γ : Arguments) : Bool → Term → Indexed → Type 0 where
-    by_category : {f h : Term} {es : List Term} {w : Whole} {As : List Indexed} {A : Indexed} {ts : List Tree} → Spine f [] h es →
+    by_category : {f h : Term} {es : List Term} {w : Whole} {As : List Indexed} {A : Indexed} {ts : List Tree} →
+        Spine f [] h es →
         head_name (out-Term h) ≡ Some (WholeName w) → HasContext w As → AreIndices Γ es ts →
         slice_get As (length es) ≡ Some A → Expects Γ true f (indexed_at ts A)
     by_function : {f h : Term} {es : List Term} {w : Whole} {As : List Indexed} {A B : Indexed} {ts : List Tree} →
