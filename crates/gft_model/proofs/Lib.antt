@@ -83,4 +83,5 @@ pub mod TypeRefusalExamples
 pub mod RefusalOrder
 pub mod UnsolvedExamples
 pub mod SourcesDetermined
+pub mod NothingWrong
 pub mod ImportExamples

@@ -5,16 +5,20 @@ use Rattle.gft_core.specs.declared.tree.Tree.{Tree}
 use Rattle.gft_pmcfg.specs.declared.signature.Abstract.{Abstract}
 use Rattle.gft_pmcfg.specs.declared.concrete.Concrete.{Concrete}
 use Rattle.gft_pmcfg.specs.declared.grammar.Grammar.{Grammar}
+use Rattle.gft_rules.specs.declared.refusal.Refusal.{Refusal}
 use Rattle.gft_syntax.specs.declared.flat.Flat.{Flat}
 use Rattle.gft_io.specs.Outside.{Files}
 use Rattle.gft_model.specs.Commands.{Read, ReadsLine, EndsIn, portable_ending}
 use Rattle.gft_model.specs.Import.{GivesPart, sources}
 use Rattle.gft_model.specs.Compiled.{Compiles}
 use Rattle.gft_model.specs.Loading.{HasFiles}
+use Rattle.gft_model.specs.Laws.{AreNamedApart}
 use Rattle.gft_model.specs.Output.{Written, Output}
 use Rattle.gft_model.specs.Replies.{Item, Parses, Completes, AreTexts}
 use Rattle.gft_model.specs.Shell.{Held, Answer, IsAnswer, IsFileOf}
+use Rattle.gft_model.specs.Skeleton.{IsSkeleton}
 use Rattle.gft_model.specs.States.{Kept, Loaded, State, Sources, language_of, Gives, StandsFor, kept_grammar}
+use Rattle.gft_model.specs.Unsolved.{IsWrongAt}
 
 -- the characters of a line are read in at most one way
 abbrev pub LineIsReadOnce : Type 0
@@ -43,6 +47,12 @@ abbrev pub TextsAreDetermined : Type 0
 TextsAreDetermined =
     (a : Abstract) (l : List ℕ × Kept) (cat : ℕ) (t : Tree) (texts others : List (List (List ℕ)))
     → AreTexts (language_of a cat l) t texts → AreTexts (language_of a cat l) t others → texts ≡ others
+
+-- nothing is wrong in a tree that has a skeleton type, where functions are told apart by their names
+abbrev pub SkeletonIsRight : Type 0
+SkeletonIsRight =
+    (a : Abstract) (t : Tree) (cat : ℕ) → AreNamedApart a.funs → IsSkeleton a t cat → (p : List ℕ) (kind : ℕ) (r : Refusal)
+    → ¬ IsWrongAt a t p kind r
 
 -- the portable file of a state gives, in an import, the grammar that stands for the state
 abbrev pub WrittenIsGiven : Type 0

@@ -1,5 +1,5 @@
 //! Laws of command lines and answers. Each function does nothing; its clause is the law.
-ghost use Rattle.gft_model.specs.AnswerLaws.{LineIsRead, LineIsReadOnce, ParseAnswersOnce, CompleteAnswersOnce, TextsAreDetermined, SessionAnswersOnce, OutputIsDetermined, WrittenIsGiven};
+ghost use Rattle.gft_model.specs.AnswerLaws.{LineIsRead, LineIsReadOnce, ParseAnswersOnce, CompleteAnswersOnce, TextsAreDetermined, SessionAnswersOnce, OutputIsDetermined, WrittenIsGiven, SkeletonIsRight};
 
 /// Every line is read, each of its pipes as commands or as a refusal.
 pub fn line_is_read()
@@ -24,6 +24,11 @@ pub fn complete_answers_once()
 /// The texts of a tree in a language, in their order, are determined.
 pub fn texts_are_determined()
     ensures { TextsAreDetermined }
+{}
+
+/// `UnknownFun`, `WrongArity` and `WrongCategory` are answered only for a tree without a skeleton type.
+pub fn skeleton_is_right()
+    ensures { SkeletonIsRight }
 {}
 
 /// A portable file that a session writes gives, in an import, the grammar that stands for the session's
