@@ -44,7 +44,8 @@ next_child t ts i =
 name_is : (fs : List Fun) (name : List ℕ) (f : Fun) → function_named fs name ≡ Some f → Contains fs f × (f.name ≡ name)
 name_is [] name f e = cc
 name_is (g ∷ fs) name f e = of_branch (name_is fs name f) (bytes_eq g.name name) refl e where
-  of_branch : (function_named fs name ≡ Some f → Contains fs f × (f.name ≡ name)) → (b : Bool) → bytes_eq g.name name ≡ b → (if b then Some g else function_named fs name) ≡ Some f
+  of_branch : (function_named fs name ≡ Some f → Contains fs f × (f.name ≡ name)) → (b : Bool) → bytes_eq g.name name ≡ b
+      → (if b then Some g else function_named fs name) ≡ Some f
       → Contains (g ∷ fs) f × (f.name ≡ name)
   of_branch after true h e =
       let same : g ≡ f = cc in
@@ -115,7 +116,8 @@ module _ (a : Abstract) (K : HoleCategories) where
   of_children n ns [] cs under ds e = cc
   of_children n ns (t ∷ ts) [] under ds e = elim ds [ ]
   of_children {s} n ns (t ∷ ts) (c ∷ cs) under (more d ds) e = of_branch (of_children (n - 1) ns ts cs under ds) (n == 1) e where
-    of_branch : (subtree_of (child_in ts (n - 1)) ns ≡ Some s → Typed s) → (b : Bool) → subtree_of (if b then Some t else child_in ts (n - 1)) ns ≡ Some s → Typed s
+    of_branch : (subtree_of (child_in ts (n - 1)) ns ≡ Some s → Typed s) → (b : Bool)
+        → subtree_of (if b then Some t else child_in ts (n - 1)) ns ≡ Some s → Typed s
     of_branch after true f = under t c d f
     of_branch after false f = after f
 

@@ -26,13 +26,14 @@ pub fn texts_are_determined()
     ensures { TextsAreDetermined }
 {}
 
-/// `UnknownFun`, `WrongArity` and `WrongCategory` are answered only for a tree without a skeleton type.
+/// `UnknownFun`, `WrongArity` and `WrongCategory` are answered only for a tree without a skeleton
+/// type.
 pub fn skeleton_is_right()
     ensures { SkeletonIsRight }
 {}
 
-/// A portable file that a session writes gives, in an import, the grammar that stands for the session's
-/// state.
+/// A portable file that a session writes gives, in an import, the grammar that stands for the
+/// session's state.
 pub fn written_file_is_given()
     ensures { WrittenIsGiven }
 {}
@@ -43,8 +44,8 @@ pub fn session_answers_once()
     ensures { SessionAnswersOnce }
 {}
 
-/// A run in which no load or save fails writes at most one output, where imports and compilation are
-/// determined and of the resolved grammars of each source one is chosen.
+/// A run in which no load or save fails writes at most one output, where imports and compilation
+/// are determined and of the resolved grammars of each source one is chosen.
 pub fn output_is_determined()
     ensures { OutputIsDetermined }
 {}
