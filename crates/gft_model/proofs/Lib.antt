@@ -82,6 +82,7 @@ pub mod AbstractRefusalExamples
 pub mod TypeRefusalExamples
 pub mod RefusalOrder
 pub mod UnsolvedExamples
+pub mod CompiledLaws
 pub mod SourcesDetermined
 pub mod NothingWrong
 pub mod ImportExamples

@@ -22,7 +22,7 @@ use Rattle.gft_model.proofs.ReadingLaws.{fields_again}
 use Rattle.gft_model.proofs.OneFile.{one_grammar}
 
 -- keys that rise
-less : (o : Ordering) → is_less o ≡ true → o ≡ Less
+pub less : (o : Ordering) → is_less o ≡ true → o ≡ Less
 less Less e = refl
 less Equal e = cc
 less Greater e = cc

@@ -15,7 +15,7 @@ use Rattle.gft_model.proofs.SkeletonLaws.{skeleton}
 -- IN ORDER
 
 -- an order in which nothing is both before and behind
-abbrev IsAsymmetric : {A : Type 0} → (A → A → Type 0) → Type 0
+abbrev pub IsAsymmetric : {A : Type 0} → (A → A → Type 0) → Type 0
 IsAsymmetric {A} R = (x y : A) → R x y → R y x → ⊥
 
 before_once : IsAsymmetric IsBefore
@@ -52,7 +52,7 @@ module _ {A : Type 0} (R : A → A → Type 0) where
         absurd (apart x x r r)) (λ i. i) (split_off y z ys n)
 
     -- two lists in order with the same items are equal
-    order_once : (xs ys : List A) → AllPairs R xs → AllPairs R ys → ((z : A) → Contains xs z ↔ Contains ys z) → xs ≡ ys
+    pub order_once : (xs ys : List A) → AllPairs R xs → AllPairs R ys → ((z : A) → Contains xs z ↔ Contains ys z) → xs ≡ ys
     order_once [] [] o p h = refl
     order_once [] (y ∷ ys) o p h = let there = (h y).1 (zero, omega arith, refl) in absurd (omega (arith, there.1))
     order_once (x ∷ xs) [] o p h = let there = (h x).0 (zero, omega arith, refl) in absurd (omega (arith, there.1))
@@ -65,7 +65,7 @@ module _ {A : Type 0} (R : A → A → Type 0) where
         )) in cc
 
 -- two lists with exactly the same members
-same_members : {A : Type 0} {P : A → Type 0} (xs ys : List A) → ((z : A) → Contains xs z ↔ P z)
+pub same_members : {A : Type 0} {P : A → Type 0} (xs ys : List A) → ((z : A) → Contains xs z ↔ P z)
     → ((z : A) → Contains ys z ↔ P z)
     → (z : A) → Contains xs z ↔ Contains ys z
 same_members xs ys h k z = (λ m. (k z).1 ((h z).0 m), λ m. (h z).1 ((k z).0 m))

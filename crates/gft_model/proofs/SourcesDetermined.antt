@@ -12,6 +12,7 @@ use Rattle.gft_model.specs.PortableFile.{Reads}
 use Rattle.gft_model.proofs.RefusalOrder.{first-once}
 use Rattle.gft_model.specs.States.{Kept, Loaded, of_file, Gives, source, portable}
 use Rattle.gft_model.proofs.AnswerLaws.{IsDetermined}
+use Rattle.gft_model.proofs.CompiledLaws.{concrete_once}
 use Rattle.gft_model.proofs.UnsolvedLaws.{last_once}
 
 -- a name does not end both ways
@@ -40,5 +41,5 @@ sources_determined determined choose = record {
     determined.one_list files names loaded others x.1 y.1,
   );
   one_part = λ files names name p q x y. part_once choose x y;
-  one_compiled = determined.one_compiled;
+  one_compiled = concrete_once;
 }

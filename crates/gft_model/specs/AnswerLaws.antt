@@ -61,6 +61,12 @@ WrittenIsGiven =
     → IsFileOf sources state bytes → (g : Grammar) × StandsFor sources (Some g) state
     × Gives sources (insert files name bytes) names name (kept_grammar g)
 
+-- what a language compiles to is determined
+abbrev pub CompiledIsDetermined : Type 0
+CompiledIsDetermined =
+    (a : Abstract) (flat : Flat) (lang : List ℕ) (c d : Concrete) → Compiles a flat lang c → Compiles a flat lang d
+    → c ≡ d
+
 -- the imports of the language, where one is chosen of the resolved grammars of each named source: their entries may stand in
 -- any order
 abbrev pub choosing : (Files → List (List ℕ) → List ℕ → Loaded) → Sources
@@ -68,12 +74,10 @@ choosing choose = record sources {
   gives = λ files names name part. GivesPart files names name part × (part ≡ choose files names name);
 }
 
--- imports and compilation are determined but for this choice: the loaded files of an import, and what a language compiles to
+-- imports are determined but for this choice: the loaded files of an import
 pub record AreDetermined : Type 0 where
   pub one_list : (files : Files) (names loaded others : List (List ℕ)) → HasFiles files names loaded
       → HasFiles files names others → loaded ≡ others
-  pub one_compiled : (a : Abstract) (flat : Flat) (name : List ℕ) (c d : Concrete) → Compiles a flat name c
-      → Compiles a flat name d → c ≡ d
 
 -- where they are, a session has at most one answer to a line in which no load or save fails
 abbrev pub SessionAnswersOnce : Type 0
