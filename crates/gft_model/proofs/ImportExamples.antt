@@ -1,5 +1,5 @@
 -- A worked example of a first refusal: the import of No.gf from files that lack it.
-use Rattle.std.proofs.Common.{◌≡◌, refl, sym, ap, ◌∙◌, ℕ, List, [], ◌∷◌, ◌++◌, Some, None, true, false, ◌⊎◌, inl, arith}
+use Rattle.std.proofs.Common.{◌≡◌, refl, sym, ap, ◌∙◌, ℕ, List, [], ◌∷◌, Some, None, true, false, ◌⊎◌, inl, arith}
 use Rattle.std.specs.Prelude.{codes, drop, bytes_eq}
 use Rattle.std.specs.FinMap.{get}
 use Rattle.gft_io.specs.Outside.{Files}
@@ -38,7 +38,7 @@ module _ (files : Files) (lacks : get files no_gf ≡ None) where
   only_missing (Loading.too_long e h) = absurd (not_there e)
   only_missing (Loading.bad_characters e h f) = absurd (not_there e)
   only_missing (Loading.bad_slices e h t f) = absurd (not_there e)
-  only_missing (Loading.misnamed e h t s n) = absurd (not_there e)
+  only_missing (Loading.misnamed e h t a s n) = absurd (not_there e)
 
   outcome : Loading.Outcome
   outcome = Loading.refused missing_file (Loading.with_file Loading.nothing_loaded no_gf)
@@ -56,8 +56,8 @@ module _ (files : Files) (lacks : get files no_gf ≡ None) where
   only_outcome (Loading.no_room p l h) = absurd (omega (arith, h))
   only_outcome (Loading.named_refused p l h (Loading.fails f)) =
       ap (λ r. Loading.refused r (Loading.with_file Loading.nothing_loaded no_gf)) (only_missing f)
-  only_outcome (Loading.named_refused p l h (Loading.needs_refused (Loading.reads e b t s m) n)) = absurd (not_there e)
-  only_outcome (Loading.named_loaded p l h (Loading.complete (Loading.reads e b t s m) n) k) = absurd (not_there e)
+  only_outcome (Loading.named_refused p l h (Loading.needs_refused (Loading.reads e b t a s m) n)) = absurd (not_there e)
+  only_outcome (Loading.named_loaded p l h (Loading.complete (Loading.reads e b t a s m) n) k) = absurd (not_there e)
   only_outcome (Loading.portable_refused p f) = absurd (not_portable p)
   only_outcome (Loading.portable_read p e b g k) = absurd (not_portable p)
 

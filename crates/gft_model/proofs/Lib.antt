@@ -75,6 +75,8 @@ pub mod UnsolvedLaws
 pub mod AnswerLaws
 pub mod OutputLaws
 pub mod LineReadings
+pub mod LoadingLaws
+pub mod TokenLaws
 pub mod RefusalExamples
 pub mod CompileRefusalExamples
 pub mod NameRefusalExamples

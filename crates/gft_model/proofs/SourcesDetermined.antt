@@ -1,26 +1,16 @@
 -- The imports of the language are determined, where one is chosen of the resolved grammars of each source.
-use Rattle.std.proofs.Common.{◌≡◌, refl, sym, ap, ◌∙◌, subst, ℕ, List, [], ◌∷◌, ◌++◌, arith, ⊎_elim, append_assoc}
-use Rattle.std.specs.Prelude.{codes, map, Some}
+use Rattle.std.proofs.Common.{◌≡◌, sym, ◌∙◌, ℕ, List}
+use Rattle.std.specs.Prelude.{map}
 use Rattle.gft_pmcfg.specs.declared.concrete.Concrete.{Concrete}
-use Rattle.gft_pmcfg.specs.declared.grammar.Grammar.{Grammar}
 use Rattle.gft_io.specs.Outside.{Files}
+use Rattle.gft_model.proofs.LoadingLaws.{endings_apart, one_list_of_files}
 use Rattle.gft_model.proofs.NoFlaw.{reads_once}
-use Rattle.gft_model.specs.AnswerLaws.{AreDetermined, choosing}
-use Rattle.gft_model.specs.Commands.{EndsIn, source_ending, portable_ending}
+use Rattle.gft_model.specs.AnswerLaws.{choosing}
 use Rattle.gft_model.specs.Import.{BreaksImport}
-use Rattle.gft_model.specs.PortableFile.{Reads}
 use Rattle.gft_model.proofs.RefusalOrder.{first-once}
-use Rattle.gft_model.specs.States.{Kept, Loaded, of_file, Gives, source, portable}
+use Rattle.gft_model.specs.States.{Loaded, of_file, Gives, source, portable}
 use Rattle.gft_model.proofs.AnswerLaws.{IsDetermined}
 use Rattle.gft_model.proofs.CompiledLaws.{concrete_once}
-use Rattle.gft_model.proofs.UnsolvedLaws.{last_once}
-
--- a name does not end both ways
-endings_apart : {name : List ℕ} → EndsIn source_ending name → EndsIn portable_ending name → ⊥
-endings_apart x y =
-    let h = last_once (x.0 ++ codes ".g") (y.0 ++ codes ".gf") 102 116
-    (append_assoc x.0 (codes ".g") (102 ∷ []) ∙ sym x.1 ∙ y.1 ∙ sym (append_assoc y.0 (codes ".gf") (116 ∷ []))) in
-    absurd (omega (arith, h.1))
 
 part_once : (choose : Files → List (List ℕ) → List ℕ → Loaded) {files : Files} {names : List (List ℕ)} {name : List ℕ} {p q : Loaded}
     → Gives (choosing choose) files names name p → Gives (choosing choose) files names name q → p ≡ q
@@ -33,12 +23,12 @@ part_once choose (portable {bytes} g e b x) (portable {bytes = others} h f c y) 
     (x.bytes_are ∙ same ∙ sym y.bytes_are) in
     λ i. record { abs = both.0 i; languages = map (λ (l : Concrete). (l.name, of_file l)) (both.1 i) }
 
-pub sources_determined : AreDetermined → (choose : Files → List (List ℕ) → List ℕ → Loaded) → IsDetermined (choosing choose)
-sources_determined determined choose = record {
+pub sources_determined : (choose : Files → List (List ℕ) → List ℕ → Loaded) → IsDetermined (choosing choose)
+sources_determined choose = record {
   apart = λ files names r loaded accepted refuses. accepted refuses.0.moment r refuses.0.broken;
   one_refusal = λ files names r s loaded others x y. (
     first-once (BreaksImport files names) r s x.0 y.0,
-    determined.one_list files names loaded others x.1 y.1,
+    one_list_of_files files names loaded others x.1 y.1,
   );
   one_part = λ files names name p q x y. part_once choose x y;
   one_compiled = concrete_once;

@@ -61,6 +61,12 @@ WrittenIsGiven =
     → IsFileOf sources state bytes → (g : Grammar) × StandsFor sources (Some g) state
     × Gives sources (insert files name bytes) names name (kept_grammar g)
 
+-- the files that an import loads are determined, in their order
+abbrev pub LoadedFilesAreDetermined : Type 0
+LoadedFilesAreDetermined =
+    (files : Files) (names loaded others : List (List ℕ)) → HasFiles files names loaded → HasFiles files names others
+    → loaded ≡ others
+
 -- what a language compiles to is determined
 abbrev pub CompiledIsDetermined : Type 0
 CompiledIsDetermined =
@@ -74,20 +80,15 @@ choosing choose = record sources {
   gives = λ files names name part. GivesPart files names name part × (part ≡ choose files names name);
 }
 
--- imports are determined but for this choice: the loaded files of an import
-pub record AreDetermined : Type 0 where
-  pub one_list : (files : Files) (names loaded others : List (List ℕ)) → HasFiles files names loaded
-      → HasFiles files names others → loaded ≡ others
-
--- where they are, a session has at most one answer to a line in which no load or save fails
+-- for such a choice a session has at most one answer to a line in which no load or save fails
 abbrev pub SessionAnswersOnce : Type 0
 SessionAnswersOnce =
-    AreDetermined → (choose : Files → List (List ℕ) → List ℕ → Loaded) (held : Held) (line : List ℕ) (x y : Answer)
+    (choose : Files → List (List ℕ) → List ℕ → Loaded) (held : Held) (line : List ℕ) (x y : Answer)
     → IsAnswer (choosing choose) held line x → IsAnswer (choosing choose) held line y → x ≡ y
 
 -- and a run in which none fails at most one output
 abbrev pub OutputIsDetermined : Type 0
 OutputIsDetermined =
-    AreDetermined → (choose : Files → List (List ℕ) → List ℕ → Loaded) (words : List (List ℕ)) (input : List ℕ)
+    (choose : Files → List (List ℕ) → List ℕ → Loaded) (words : List (List ℕ)) (input : List ℕ)
     (files : Files) (w v : Written) → Output (choosing choose) words input files w → w.failures ≡ 0
     → Output (choosing choose) words input files v → v.failures ≡ 0 → w ≡ v

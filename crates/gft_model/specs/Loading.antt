@@ -16,7 +16,7 @@ use Rattle.gft_model.specs.PortableFile
 use Rattle.gft_model.specs.PortableFile.{HasFault, IsInvalid}
 use Rattle.gft_model.specs.ModuleGrammar.{SpellsModule}
 use Rattle.gft_model.specs.Modules.{header_name, mentions, module_named}
-use Rattle.gft_model.specs.Refusals.{ByPlace, IsFirst, refusal, placeless}
+use Rattle.gft_model.specs.Refusals.{ByPlace, IsFirst, IsAccepted, refusal, placeless}
 use Rattle.gft_model.specs.Source.{Tokens}
 use Rattle.gft_model.specs.SyntaxFaults.{BreaksSyntax}
 use Rattle.gft_model.specs.TokenFaults.{BreaksTokens}
@@ -76,10 +76,11 @@ abbrev pub IsLoaded : Loading → List ℕ → Type 0
 IsLoaded s M = (m : Module) × (module_named s.modules M ≡ Some m)
 
 module _ (files : Files) where
-  -- the file is read as a module of that name, where it is the next to be loaded
+  -- the file is read as a module of that name, where it is the next to be loaded and nothing is broken in its slices
   pub data Reads (s : Loading) (file M : List ℕ) : Module → Type 0 where
     reads : {bytes : List ℕ} {ts : List SourceToken} {m : Module} → get files file ≡ Some bytes → length bytes ≤ most_bytes →
-        Tokens (length s.files) bytes ts → SpellsModule ts m → (header_name m.header).name ≡ M → Reads s file M m
+        Tokens (length s.files) bytes ts → IsAccepted (BreaksSyntax (length s.files) ts) → SpellsModule ts m →
+        (header_name m.header).name ≡ M → Reads s file M m
 
   -- why it is not
   pub data Fails (s : Loading) (file M : List ℕ) : Refusal → Type 0 where
@@ -92,7 +93,8 @@ module _ (files : Files) where
         length bytes ≤ most_bytes →
         Tokens (length s.files) bytes ts → IsFirst (BreaksSyntax (length s.files) ts) r → Fails s file M r
     misnamed : {bytes : List ℕ} {ts : List SourceToken} {m : Module} → get files file ≡ Some bytes → length bytes ≤ most_bytes →
-        Tokens (length s.files) bytes ts → SpellsModule ts m → (header_name m.header).name ≢ M →
+        Tokens (length s.files) bytes ts → IsAccepted (BreaksSyntax (length s.files) ts) → SpellsModule ts m →
+        (header_name m.header).name ≢ M →
         Fails s file M (refusal R.NameMismatch (header_name m.header).place ((header_name m.header).name ∷ []))
 
   mutual

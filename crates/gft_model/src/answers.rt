@@ -1,5 +1,5 @@
 //! Laws of command lines and answers. Each function does nothing; its clause is the law.
-ghost use Rattle.gft_model.specs.AnswerLaws.{LineIsRead, LineIsReadOnce, ParseAnswersOnce, CompleteAnswersOnce, TextsAreDetermined, SessionAnswersOnce, OutputIsDetermined, WrittenIsGiven, SkeletonIsRight, CompiledIsDetermined};
+ghost use Rattle.gft_model.specs.AnswerLaws.{LineIsRead, LineIsReadOnce, ParseAnswersOnce, CompleteAnswersOnce, TextsAreDetermined, SessionAnswersOnce, OutputIsDetermined, WrittenIsGiven, SkeletonIsRight, CompiledIsDetermined, LoadedFilesAreDetermined};
 
 /// Every line is read, each of its pipes as commands or as a refusal.
 pub fn line_is_read()
@@ -38,19 +38,24 @@ pub fn written_file_is_given()
     ensures { WrittenIsGiven }
 {}
 
+/// The files that an import loads, in their order, are determined.
+pub fn loaded_files_are_determined()
+    ensures { LoadedFilesAreDetermined }
+{}
+
 /// A language compiles to at most one concrete syntax.
 pub fn compiled_is_determined()
     ensures { CompiledIsDetermined }
 {}
 
-/// A session has at most one answer to a line in which no load or save fails, where imports are
-/// determined and of the resolved grammars of each source one is chosen.
+/// A session has at most one answer to a line in which no load or save fails, where of the resolved
+/// grammars of each source one is chosen.
 pub fn session_answers_once()
     ensures { SessionAnswersOnce }
 {}
 
-/// A run in which no load or save fails writes at most one output, where imports are
-/// determined and of the resolved grammars of each source one is chosen.
+/// A run in which no load or save fails writes at most one output, where of the resolved grammars of
+/// each source one is chosen.
 pub fn output_is_determined()
     ensures { OutputIsDetermined }
 {}

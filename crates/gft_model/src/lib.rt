@@ -8,8 +8,8 @@ mod sources;
 
 pub use answers::{
     compiled_is_determined, complete_answers_once, line_is_read, line_is_read_once,
-    output_is_determined, parse_answers_once, session_answers_once, skeleton_is_right,
-    texts_are_determined, written_file_is_given,
+    loaded_files_are_determined, output_is_determined, parse_answers_once, session_answers_once,
+    skeleton_is_right, texts_are_determined, written_file_is_given,
 };
 pub use laws::{
     bytes_have_fault_or_fields, cut_covers_tree, erased_is_string, fault_is_determined,

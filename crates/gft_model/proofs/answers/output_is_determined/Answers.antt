@@ -4,4 +4,4 @@ use Rattle.gft_model.proofs.answers.output_is_determined.Goals as goal
 use Rattle.gft_model.specs.AnswerLaws.{choosing}
 
 pub returns : goal.returns
-returns c = λ determined choose. output_once (choosing choose) (sources_determined determined choose)
+returns c = λ choose. output_once (choosing choose) (sources_determined choose)

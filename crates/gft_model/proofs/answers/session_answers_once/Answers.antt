@@ -4,4 +4,4 @@ use Rattle.gft_model.proofs.answers.session_answers_once.Goals as goal
 use Rattle.gft_model.specs.AnswerLaws.{choosing}
 
 pub returns : goal.returns
-returns c = λ determined choose. answer_once (choosing choose) (sources_determined determined choose)
+returns c = λ choose. answer_once (choosing choose) (sources_determined choose)

@@ -1,0 +1,356 @@
+-- A file that has tokens has no fault of its characters.
+use Rattle.std.proofs.Common.{◌≡◌, refl, sym, ap, ◌∙◌, subst, append_assoc, ℕ, zero, suc, ◌+◌, ◌-◌, ◌^◌, ◌<◌, ◌≤◌, List, [], ◌∷◌, ◌++◌, Bool, true, false, arith, length, ⊎_elim, inl, inr, ◌⊎◌}
+use Rattle.std.proofs.Math.Seq.{take-length, drop-length}
+use Rattle.std.proofs.Math.Utf8.{scalar, scalars, scalar_cases}
+use Rattle.std.proofs.lemmas.Bool.{ltb-true}
+use Rattle.std.proofs.lemmas.List.{append-nil, length-append}
+use Rattle.std.proofs.lemmas.Str.{scalars-chars, utf8_valid_len-IsUtf8}
+use Rattle.std.specs.Char.{is_whitespace}
+use Rattle.std.specs.Cmp.{unsigned_Decides}
+use Rattle.std.specs.List.{list_all}
+use Rattle.std.specs.Prelude.{⊤, ◌==◌, ◌&&◌, ◌||◌, map, take, drop, chars, Contains, IsUtf8, Option, Some, None, option_map, option_and_then, nat_lt, encode_utf8_all, if◌then◌else◌}
+use Rattle.gft_core.specs.declared.place.Place.{Place}
+use Rattle.gft_rules.specs.declared.refusal.Refusal.{Refusal}
+use Rattle.gft_syntax.specs.declared.token.SourceToken.{SourceToken}
+use Rattle.gft_syntax.specs.declared.token.TokenForm.{TokenForm}
+use Rattle.gft_syntax.specs.declared.token.TokenForm.TheVariants.{Quoted, Number}
+use Rattle.gft_model.specs.Source.{Tokens, Lexeme, blank, token, nothing, lexeme_at, longest, longest_from, form_of, token_lexeme, block_lexeme, block_length, line_length, escaped, quoted_text, escape_text, tokens_from, in_range, after, first_place}
+use Rattle.gft_model.specs.TokenFaults.{BreaksTokens, Begins, at_start, after_lexeme, not_utf8, bad_character, open_string, bad_escape, open_comment, number_too_large, text_of, loose, moved, length_of, is_closed, is_closed_after, escapes_from}
+
+true_of_and : (a b : Bool) → (a && b) ≡ true → (a ≡ true) × (b ≡ true)
+true_of_and true b e = (refl, e)
+true_of_and false b e = let wrong : false ≡ true = e in cc
+
+-- THE CHARACTERS OF A TEXT
+
+text_is : (bytes : List ℕ) → IsUtf8 bytes → text_of bytes ≡ chars bytes
+text_is bytes u =
+    ap (λ n. chars (take n bytes) ++ map loose (drop n bytes)) (utf8_valid_len-IsUtf8 bytes u)
+    ∙ ap (λ xs. chars (take (length bytes) bytes) ++ map loose xs) (drop-length bytes)
+    ∙ append-nil (chars (take (length bytes) bytes)) ∙ ap chars (take-length bytes)
+
+-- a character among those of a text
+in_text : (xs : List ℕ) (c : ℕ) (ys : List ℕ) → scalars (xs ++ c ∷ ys) ≡ true → c < 1114112
+in_text [] c ys h =
+    let is = true_of_and (scalar c) (scalars ys) h in
+    ⊎_elim {C = c < 1114112} (λ k. omega (arith, k)) (λ k. k.1) (scalar_cases c is.0)
+in_text (x ∷ xs) c ys h = in_text xs c ys (true_of_and (scalar x) (scalars (xs ++ c ∷ ys)) h).1
+
+-- LEXEMES ARE NOT EMPTY
+
+-- what begins has a character at least
+abbrev Long : Lexeme → Type 0
+Long (blank n) = 0 < n
+Long (token t n) = 0 < n
+Long nothing = ⊤
+
+abbrev Found : Option (TokenForm × ℕ) → Type 0
+Found None = ⊤
+Found (Some t) = 0 < t.1
+
+either : (b : Bool) (x y : Lexeme) → Long x → Long y → Long (if b then x else y)
+either true x y h k = h
+either false x y h k = k
+
+found_now : (o : Option TokenForm) (n : ℕ) (best : Option (TokenForm × ℕ)) → 0 < n → Found best
+    → Found (elim o [ Some t ↦ Some (t, n) | None ↦ best ])
+found_now (Some t) n best h k = h
+found_now None n best h k = k
+
+found_longest : (held cs : List ℕ) (best : Option (TokenForm × ℕ)) → Found best → Found (longest_from held cs best)
+found_longest held [] best h = h
+found_longest held (c ∷ cs) best h =
+    let more = length-append held (c ∷ []) in
+    found_longest (held ++ c ∷ []) cs
+    (elim (form_of (held ++ c ∷ [])) [ Some t ↦ Some (t, length (held ++ c ∷ [])) | None ↦ best ])
+    (found_now (form_of (held ++ c ∷ [])) (length (held ++ c ∷ [])) best (omega (arith, more)) h)
+
+long_token : (o : Option (TokenForm × ℕ)) → Found o → Long (token_lexeme o)
+long_token None h = tt
+long_token (Some t) h = h
+
+long_block : (o : Option ℕ) → Long (block_lexeme o)
+long_block None = tt
+long_block (Some n) = omega arith
+
+long_at : (cs : List ℕ) → Long (lexeme_at cs)
+long_at [] = tt
+long_at (c ∷ []) =
+    either (is_whitespace c) (blank 1) _ (omega arith)
+    (long_token (longest (c ∷ [])) (found_longest [] (c ∷ []) None tt))
+long_at (c ∷ d ∷ cs) =
+    either (is_whitespace c) (blank 1) _ (omega arith)
+    (either (c == 45 && d == 45) (blank (line_length cs + 2)) _ (omega arith)
+    (either (c == 123 && d == 45) (block_lexeme (block_length cs)) _ (long_block (block_length cs))
+    (long_token (longest (c ∷ d ∷ cs)) (found_longest [] (c ∷ d ∷ cs) None tt))))
+
+-- WHERE A LEXEME MAY BEGIN
+
+-- the tokens from a place on, by what begins there
+abbrev reading : Lexeme → Place → ℕ → List ℕ → Option (List SourceToken)
+reading nothing p c cs = None
+reading (blank n) p c cs = tokens_from (n - 1) (after c p) cs
+reading (token t n) p c cs = option_map (λ ts. record { form = t; place = p } ∷ ts) (tokens_from (n - 1) (after c p) cs)
+
+-- the same, as tokens_from has it
+abbrev as_read : Lexeme → Place → ℕ → List ℕ → Option (List SourceToken)
+as_read l p c cs =
+    elim l [
+      | nothing ↦ None
+      | blank n ↦ tokens_from (n - 1) (after c p) cs
+      | token t n ↦ option_map (λ ts. record { form = t; place = p } ∷ ts) (tokens_from (n - 1) (after c p) cs)
+    ]
+
+read_as : (p : Place) (c : ℕ) (cs : List ℕ) (l : Lexeme) → lexeme_at (c ∷ cs) ≡ l → tokens_from 0 p (c ∷ cs) ≡ as_read l p c cs
+read_as p c cs l e = ap (λ x. as_read x p c cs) e
+
+read_here : (p : Place) (c : ℕ) (cs : List ℕ) (l : Lexeme) → lexeme_at (c ∷ cs) ≡ l
+    → tokens_from 0 p (c ∷ cs) ≡ reading l p c cs
+read_here p c cs nothing e = read_as p c cs _ e
+read_here p c cs (blank n) e = read_as p c cs _ e
+read_here p c cs (token t n) e = read_as p c cs _ e
+
+tokens_moved : (n : ℕ) (p : Place) (cs : List ℕ) → tokens_from n p cs ≡ tokens_from 0 (moved n p cs) (drop n cs)
+tokens_moved zero p cs = refl
+tokens_moved (suc n) p [] = refl
+tokens_moved (suc n) p (c ∷ cs) = tokens_moved n (after c p) cs
+
+-- the tokens from a place on are in range
+abbrev Good : Place → List ℕ → Type 0
+Good p cs = (us : List SourceToken) × (tokens_from 0 p cs ≡ Some us) × (list_all in_range us ≡ true)
+
+one_less : (m : ℕ) → suc m - 1 ≡ m
+one_less m = omega arith
+
+mapped : (t : SourceToken) (o : Option (List SourceToken)) (us : List SourceToken) → option_map (λ ts. t ∷ ts) o ≡ Some us
+    → list_all in_range us ≡ true
+    → (vs : List SourceToken) × (o ≡ Some vs) × (list_all in_range vs ≡ true) × (in_range t ≡ true)
+mapped t None us e r = let wrong : None ≡ Some us = e in cc
+mapped t (Some vs) us e r =
+    let same : us ≡ t ∷ vs = cc in
+    let both = true_of_and (in_range t) (list_all in_range vs) (subst (λ x. list_all in_range x ≡ true) same r) in
+    (vs, refl, both.1, both.0)
+
+good_next : (l : Lexeme) (n : ℕ) (p : Place) (c : ℕ) (cs : List ℕ) (us : List SourceToken) → length_of l ≡ Some n → Long l
+    → reading l p c cs ≡ Some us → list_all in_range us ≡ true → Good (moved n p (c ∷ cs)) (drop n (c ∷ cs))
+good_next nothing n p c cs us h k e r = let wrong : None ≡ Some n = h in cc
+good_next (blank zero) n p c cs us h k e r = absurd (omega (arith, k))
+good_next (blank (suc m)) n p c cs us h k e r =
+    let same : suc m ≡ n = cc in
+    let less : tokens_from (suc m - 1) (after c p) cs ≡ tokens_from m (after c p) cs =
+    ap (λ x. tokens_from x (after c p) cs) (one_less m) in
+    subst (λ x. Good (moved x p (c ∷ cs)) (drop x (c ∷ cs))) same (us, sym (tokens_moved m (after c p) cs) ∙ sym less ∙ e, r)
+good_next (token t zero) n p c cs us h k e r = absurd (omega (arith, k))
+good_next (token t (suc m)) n p c cs us h k e r =
+    let same : suc m ≡ n = cc in
+    let parts = mapped (record { form = t; place = p }) (tokens_from (suc m - 1) (after c p) cs) us e r in
+    let less : tokens_from (suc m - 1) (after c p) cs ≡ tokens_from m (after c p) cs =
+    ap (λ x. tokens_from x (after c p) cs) (one_less m) in
+    subst (λ x. Good (moved x p (c ∷ cs)) (drop x (c ∷ cs))) same
+    (parts.0, sym (tokens_moved m (after c p) cs) ∙ sym less ∙ parts.1, parts.2)
+
+good_at : {file : ℕ} {text : List ℕ} {ts : List SourceToken} {p : Place} {cs : List ℕ} → Begins file text p cs
+    → tokens_from 0 (first_place file) text ≡ Some ts → list_all in_range ts ≡ true → Good p cs
+good_at {ts} at_start e r = (ts, e, r)
+good_at (after_lexeme {cs = []} b h) e r = cc
+good_at (after_lexeme {p} {cs = c ∷ cs} {n} b h) e r =
+    let good = good_at b e r in
+    good_next (lexeme_at (c ∷ cs)) n p c cs good.0 h (long_at (c ∷ cs))
+    (sym (read_here p c cs (lexeme_at (c ∷ cs)) refl) ∙ good.1) good.2
+
+-- nothing but a lexeme begins there
+nowhere : (p : Place) (c : ℕ) (cs : List ℕ) → Good p (c ∷ cs) → lexeme_at (c ∷ cs) ≡ nothing → ⊥
+nowhere p c cs g e = let wrong : None ≡ Some g.0 = sym (read_here p c cs nothing e) ∙ g.1 in cc
+
+-- EACH FAULT
+
+too_large : (m n : ℕ) → nat_lt n m ≡ true → m ≤ n → ⊥
+too_large m n h k = omega (arith, ltb-true n m h, k)
+
+-- no token begins, and neither white space nor a comment
+none_now : (o : Option TokenForm) (n : ℕ) (best : Option (TokenForm × ℕ))
+    → ◌≡◌ {A = Option (TokenForm × ℕ)} (elim o [ Some t ↦ Some (t, n) | None ↦ best ]) None → best ≡ None
+none_now None n best e = e
+none_now (Some t) n best e = cc
+
+none_from : (held cs : List ℕ) (best : Option (TokenForm × ℕ)) → longest_from held cs best ≡ None → best ≡ None
+none_from held [] best e = e
+none_from held (c ∷ cs) best e =
+    none_now (form_of (held ++ c ∷ [])) (length (held ++ c ∷ [])) best
+    (none_from (held ++ c ∷ []) cs (elim (form_of (held ++ c ∷ [])) [ Some t ↦ Some (t, length (held ++ c ∷ [])) | None ↦ best ]) e)
+
+form_now : (o : Option TokenForm) (n : ℕ) → ◌≡◌ {A = Option (TokenForm × ℕ)} (elim o [ Some t ↦ Some (t, n) | None ↦ None ]) None
+    → o ≡ None
+form_now None n e = refl
+form_now (Some t) n e = cc
+
+no_form : (c : ℕ) (cs : List ℕ) → longest (c ∷ cs) ≡ None → form_of (c ∷ []) ≡ None
+no_form c cs e =
+    form_now (form_of (c ∷ [])) (length (c ∷ []))
+    (none_from (c ∷ []) cs (elim (form_of (c ∷ [])) [ Some t ↦ Some (t, length (c ∷ [])) | None ↦ None ]) e)
+
+-- a character of its own is no symbol
+differs : (c k : ℕ) (b : Bool) → (c == k) ≡ b → form_of (c ∷ []) ≡ None → (form_of (k ∷ []) ≡ None → ⊥)
+    → (c == k) ≡ false
+differs c k false e f n = e
+differs c k true e f n = absurd (n (subst (λ x. form_of (x ∷ []) ≡ None) ((unsigned_Decides c k).0 e) f))
+
+no_lexeme : (c : ℕ) (cs : List ℕ) → longest (c ∷ cs) ≡ None → is_whitespace c ≡ false → lexeme_at (c ∷ cs) ≡ nothing
+no_lexeme c [] e w = ap (λ b. if b then blank 1 else token_lexeme (longest (c ∷ []))) w ∙ ap token_lexeme e
+no_lexeme c (d ∷ cs) e w =
+    let f = no_form c (d ∷ cs) e in
+    let minus = differs c 45 (c == 45) refl f (λ x. cc) in
+    let brace = differs c 123 (c == 123) refl f (λ x. cc) in
+    ap (λ b. if b then blank 1 else if c == 45 && d == 45 then blank (line_length cs + 2)
+    else if c == 123 && d == 45 then block_lexeme (block_length cs) else token_lexeme (longest (c ∷ d ∷ cs))) w
+    ∙ ap (λ b. if b && d == 45 then blank (line_length cs + 2)
+    else if c == 123 && d == 45 then block_lexeme (block_length cs) else token_lexeme (longest (c ∷ d ∷ cs))) minus
+    ∙ ap (λ b. if b && d == 45 then block_lexeme (block_length cs) else token_lexeme (longest (c ∷ d ∷ cs))) brace
+    ∙ ap token_lexeme e
+
+-- a text that is not one
+quoted_lexeme : (cs : List ℕ) → longest (34 ∷ cs) ≡ None → lexeme_at (34 ∷ cs) ≡ nothing
+quoted_lexeme cs e = no_lexeme 34 cs e refl
+
+quoted_longest : (held cs : List ℕ) → ((xs ys : List ℕ) → held ++ cs ≡ xs ++ ys → quoted_text xs ≡ None)
+    → longest_from (34 ∷ held) cs None ≡ None
+quoted_longest held [] none = refl
+quoted_longest held (c ∷ cs) none =
+    let same = append_assoc held (c ∷ []) cs in
+    let this = none (held ++ c ∷ []) cs (sym same) in
+    ap (λ o. longest_from (34 ∷ held ++ c ∷ []) cs
+    (elim (option_map {T = List ℕ} {U = TokenForm} (λ t. Quoted (encode_utf8_all t) (encode_utf8_all (34 ∷ held ++ c ∷ []))) o)
+    [ Some t ↦ Some (t, length (34 ∷ held ++ c ∷ [])) | None ↦ None ])) this
+    ∙ quoted_longest (held ++ c ∷ []) cs (λ xs ys h. none xs ys (sym same ∙ h))
+
+-- a text that is spelled is closed
+abbrev quoted_as : Bool → Bool → Bool → ℕ → List ℕ → Option (List ℕ)
+quoted_as a b d c cs =
+    elim a [
+      | true ↦ escape_text cs
+      | false ↦ elim (b || d) [
+        | true ↦ (if b && length cs == 0 then Some [] else None)
+        | false ↦ option_map (λ rest. c ∷ rest) (quoted_text cs)
+      ]
+    ]
+
+abbrev closed_as : Bool → Bool → Bool → List ℕ → Bool
+closed_as a b d cs = elim a [ true ↦ is_closed_after cs | false ↦ elim (b || d) [ true ↦ b | false ↦ is_closed cs ] ]
+
+of_map : (c : ℕ) (o : Option (List ℕ)) (t : List ℕ) → option_map (λ rest. c ∷ rest) o ≡ Some t → (s : List ℕ) × (o ≡ Some s)
+of_map c None t e = let wrong : None ≡ Some t = e in cc
+of_map c (Some s) t e = (s, refl)
+
+closed_by : (a b d : Bool) (c : ℕ) (xs ys t : List ℕ)
+    → ((s : List ℕ) → escape_text xs ≡ Some s → is_closed_after (xs ++ ys) ≡ true)
+    → ((s : List ℕ) → quoted_text xs ≡ Some s → is_closed (xs ++ ys) ≡ true) → quoted_as a b d c xs ≡ Some t
+    → closed_as a b d (xs ++ ys) ≡ true
+closed_by true b d c xs ys t f g e = f t e
+closed_by false true d c xs ys t f g e = refl
+closed_by false false true c xs ys t f g e = let wrong : None ≡ Some t = e in cc
+closed_by false false false c xs ys t f g e = let s = of_map c (quoted_text xs) t e in g s.0 s.1
+
+of_escape : (c : ℕ) (o : Option ℕ) (xs t : List ℕ)
+    → option_and_then (λ d. option_map (λ rest. d ∷ rest) (quoted_text xs)) o ≡ Some t
+    → (d : ℕ) × (o ≡ Some d) × (s : List ℕ) × (quoted_text xs ≡ Some s)
+of_escape c None xs t e = let wrong : None ≡ Some t = e in cc
+of_escape c (Some d) xs t e = let s = of_map d (quoted_text xs) t e in (d, refl, s.0, s.1)
+
+after_by : (a : Bool) (c : ℕ) (xs ys : List ℕ) (d : ℕ) → (c == 10) ≡ a → escaped c ≡ Some d → is_closed (xs ++ ys) ≡ true
+    → (elim a [ true ↦ false | false ↦ is_closed (xs ++ ys) ]) ≡ true
+after_by true c xs ys d h e k =
+    let wrong : None ≡ Some d = sym (ap escaped ((unsigned_Decides c 10).0 h)) ∙ e in cc
+after_by false c xs ys d h e k = k
+
+mutual
+  closed_if : (xs ys t : List ℕ) → quoted_text xs ≡ Some t → is_closed (xs ++ ys) ≡ true
+  closed_if [] ys t e = let wrong : None ≡ Some t = e in cc
+  closed_if (c ∷ xs) ys t e = closed_by (c == 92) (c == 34) (c == 10) c xs ys t (closed_escape xs ys) (closed_if xs ys) e
+
+  closed_escape : (xs ys t : List ℕ) → escape_text xs ≡ Some t → is_closed_after (xs ++ ys) ≡ true
+  closed_escape [] ys t e = let wrong : None ≡ Some t = e in cc
+  closed_escape (c ∷ xs) ys t e =
+      let parts = of_escape c (escaped c) xs t e in
+      after_by (c == 10) c xs ys parts.0 refl parts.1 (closed_if xs ys parts.2 parts.3)
+
+-- and its escapes are escapes
+abbrev escapes_as : Bool → Bool → Place → ℕ → ℕ → List ℕ → List (Place × ℕ)
+escapes_as a b p c d cs =
+    elim a [
+      | true ↦ (p, d) ∷ escapes_from (after d (after c p)) cs
+      | false ↦ elim b [ true ↦ [] | false ↦ escapes_from (after c p) (d ∷ cs) ]
+    ]
+
+nothing_in : (q : Place) (k : ℕ) → Contains {X = Place × ℕ} [] (q, k) → ⊥
+nothing_in q k (i, h, e) = omega (arith, h)
+
+one_char : (a b d : Bool) (p q : Place) (c k e : ℕ) (ys t : List ℕ) → quoted_as a b d c [] ≡ Some t
+    → Contains (escapes_as a b p c e ys) (q, k) → ⊥
+one_char true b d p q c k e ys t f h = let wrong : None ≡ Some t = f in cc
+one_char false true d p q c k e ys t f h = nothing_in q k h
+one_char false false true p q c k e ys t f h = let wrong : None ≡ Some t = f in cc
+one_char false false false p q c k e ys t f h = let wrong : None ≡ Some t = f in cc
+
+first_escape : (p q : Place) (d k : ℕ) (rest : List (Place × ℕ)) → Contains ((p, d) ∷ rest) (q, k)
+    → (d ≡ k) ⊎ Contains rest (q, k)
+first_escape p q d k rest (zero, h, e) = inl (ap (λ (x : Place × ℕ). x.1) e)
+first_escape p q d k rest (suc i, h, e) = inr (i, omega (arith, h), e)
+
+two_chars : (a b f : Bool) (p q : Place) (c k d : ℕ) (xs ys t : List ℕ)
+    → ((r : Place) (s : List ℕ) → quoted_text xs ≡ Some s → Contains (escapes_from r (xs ++ ys)) (q, k)
+    → escaped k ≡ None → ⊥)
+    → ((r : Place) (s : List ℕ) → quoted_text (d ∷ xs) ≡ Some s → Contains (escapes_from r (d ∷ xs ++ ys)) (q, k)
+    → escaped k ≡ None → ⊥)
+    → quoted_as a b f c (d ∷ xs) ≡ Some t → Contains (escapes_as a b p c d (xs ++ ys)) (q, k) → escaped k ≡ None → ⊥
+two_chars true b f p q c k d xs ys t far near e h n =
+    let parts = of_escape d (escaped d) xs t e in
+    ⊎_elim {C = ⊥} (λ same. let wrong : None ≡ Some parts.0 = sym n ∙ sym (ap escaped same) ∙ parts.1 in cc)
+    (λ rest. far (after d (after c p)) parts.2 parts.3 rest n)
+    (first_escape p q d k (escapes_from (after d (after c p)) (xs ++ ys)) h)
+two_chars false true f p q c k d xs ys t far near e h n = nothing_in q k h
+two_chars false false true p q c k d xs ys t far near e h n = let wrong : None ≡ Some t = e in cc
+two_chars false false false p q c k d xs ys t far near e h n =
+    let s = of_map c (quoted_text (d ∷ xs)) t e in near (after c p) s.0 s.1 h n
+
+escapes_good : (p q : Place) (k : ℕ) (xs ys t : List ℕ) → quoted_text xs ≡ Some t → Contains (escapes_from p (xs ++ ys)) (q, k)
+    → escaped k ≡ None → ⊥
+escapes_good p q k [] ys t e h n = let wrong : None ≡ Some t = e in cc
+escapes_good p q k (c ∷ []) [] t e h n = nothing_in q k h
+escapes_good p q k (c ∷ []) (d ∷ ys) t e h n = one_char (c == 92) (c == 34) (c == 10) p q c k d ys t e h
+escapes_good p q k (c ∷ d ∷ xs) ys t e h n =
+    two_chars (c == 92) (c == 34) (c == 10) p q c k d xs ys t (λ r s. escapes_good r q k xs ys s)
+    (λ r s. escapes_good r q k (d ∷ xs) ys s) e h n
+
+none_or : {A : Type 0} (o : Option A) → ((t : A) → o ≡ Some t → ⊥) → o ≡ None
+none_or None n = refl
+none_or (Some t) n = absurd (n t refl)
+
+good_of : {file : ℕ} {bytes : List ℕ} {ts : List SourceToken} {p : Place} {cs : List ℕ} → Tokens file bytes ts
+    → Begins file (text_of bytes) p cs → Good p cs
+good_of {file} {bytes} t b =
+    good_at b (ap (λ x. tokens_from 0 (first_place file) x) (text_is bytes t.is_text) ∙ t.spelled) t.ranged
+
+large : (p : Place) {n k : ℕ} {s : List ℕ} (cs : List ℕ) → Good p cs → lexeme_at cs ≡ token (Number n s) k → 2 ^ 128 ≤ n → ⊥
+large p [] g e h = let wrong : nothing ≡ token (Number _ _) _ = e in cc
+large p {n} {k} {s} (c ∷ cs) g e h =
+    let parts = mapped (record { form = Number n s; place = p }) (tokens_from (k - 1) (after c p) cs) g.0
+    (sym (read_here p c cs (token (Number n s) k) e) ∙ g.1) g.2 in
+    too_large (2 ^ 128) n parts.3 h
+
+-- a file that has tokens has no fault of its characters
+pub tokens_apart : {n : ℕ} {bytes : List ℕ} {ts : List SourceToken} {r : Refusal} → Tokens n bytes ts → BreaksTokens n bytes r → ⊥
+tokens_apart {bytes} t (not_utf8 before rest c e h) =
+    let is : scalars (before ++ c ∷ rest) ≡ true =
+    subst (λ x. scalars x ≡ true) (sym (text_is bytes t.is_text) ∙ e) (scalars-chars bytes t.is_text) in
+    omega (arith, h, in_text before c rest is)
+tokens_apart t (bad_character {p} {c} {cs} b e w n h) = nowhere p c cs (good_of t b) (no_lexeme c cs e w)
+tokens_apart t (open_string {p} {cs} b e) =
+    let none = quoted_longest [] cs (λ xs ys h. none_or (quoted_text xs) (λ s f.
+    let closed = closed_if xs ys s f in let wrong : false ≡ true = sym e ∙ ap is_closed h ∙ closed in cc)) in
+    nowhere p 34 cs (good_of t b) (quoted_lexeme cs none)
+tokens_apart t (bad_escape {p} {q} {c} {cs} b e k n h) =
+    let none = quoted_longest [] cs (λ xs ys f. none_or (quoted_text xs) (λ s g.
+    escapes_good (after 34 p) q c xs ys s g (subst (λ x. Contains (escapes_from (after 34 p) x) (q, c)) f k) n)) in
+    nowhere p 34 cs (good_of t b) (quoted_lexeme cs none)
+tokens_apart t (open_comment {p} {cs} b e) = nowhere p 123 (45 ∷ cs) (good_of t b) (ap block_lexeme e)
+tokens_apart t (number_too_large {p} {n} {k} {cs} {s} b e h) = large p cs (good_of t b) e h
