@@ -31,15 +31,13 @@ Starts j C = (n : PlacedName) × (n.name ≡ codes "startcat") × (j ≡ J.Flag 
 
 -- the start category: the last that a flag names and that is one; else S, else the first by name, else Int
 pub data IsStart (js : List Judgement) (names : List (List ℕ)) : List ℕ → Type 0 where
-  by_flag : {C : List ℕ} (before : List Judgement) (j : Judgement) (after : List Judgement) → js ≡ before ++ j ∷ after →
-      Starts j C →
+  by_flag : {C : _} (before : List Judgement) (j : Judgement) (after : List Judgement) → js ≡ before ++ j ∷ after → Starts j C →
       Contains (codes "Int" ∷ codes "String" ∷ names) C →
       ((k : Judgement) (D : List ℕ) → Contains after k → Starts k D → ¬ (Contains (codes "Int" ∷ codes "String" ∷ names) D)) →
       IsStart js names C
-  by_default : {C : List ℕ} →
+  by_default : {C : _} →
       ((k : Judgement) (D : List ℕ) → Contains js k → Starts k D → ¬ (Contains (codes "Int" ∷ codes "String" ∷ names) D)) →
-      ((C ≡ codes "S") × Contains names C) ⊎ (¬ (Contains names (codes "S"))
-      × (slice_get (names ++ codes "Int" ∷ []) 0 ≡ Some C)) →
+      ((C ≡ codes "S") × Contains names C) ⊎ (¬ (Contains names (codes "S")) × (slice_get (names ++ codes "Int" ∷ []) 0 ≡ Some C)) →
       IsStart js names C
 
 module _ (cats funs : List FlatJudgement) (LeftOut : Whole → Type 0) where

@@ -210,18 +210,18 @@ IsFileName name = EndsIn source_ending name ⊎ EndsIn portable_ending name
 
 -- the file names of a command are of its form
 pub data AreFileNames : Verb → List (List ℕ) → Type 0 where
-  of_import : {name : List ℕ} {names : List (List ℕ)} → All IsFileName (name ∷ names) → AreFileNames Import (name ∷ names)
-  of_write_portable : {name : List ℕ} → EndsIn portable_ending name → AreFileNames WritePortable (name ∷ [])
+  of_import : {name names : _} → All IsFileName (name ∷ names) → AreFileNames Import (name ∷ names)
+  of_write_portable : {name : _} → EndsIn portable_ending name → AreFileNames WritePortable (name ∷ [])
 
 -- what a text says as the argument of a command of that form
 pub data IsArgument : Verb → List ℕ → Argument → Type 0 where
-  files : {verb : Verb} {text : List ℕ} → AreFileNames verb (words_in text) → IsArgument verb text (Files (words_in text))
+  files : {verb text : _} → AreFileNames verb (words_in text) → IsArgument verb text (Files (words_in text))
   of_empty : IsArgument Empty [] Nothing
   of_quit : IsArgument Quit [] Nothing
-  to_parse : {text : List ℕ} (inner : List ℕ) → text ≡ quoted inner → IsArgument Parse text (Words (words_in inner))
-  to_complete : {text : List ℕ} (inner : List ℕ) → text ≡ quoted inner → IsArgument Complete text (Words (words_in inner))
-  to_linearize : {text : List ℕ} {t : tree.Tree} → Spells text t → IsArgument Linearize text (Tree t)
-  by_name : {text : List ℕ} → spells_name text ≡ true → IsArgument AbstractInfo text (Name (encode_utf8_all text))
+  to_parse : {text : _} (inner : List ℕ) → text ≡ quoted inner → IsArgument Parse text (Words (words_in inner))
+  to_complete : {text : _} (inner : List ℕ) → text ≡ quoted inner → IsArgument Complete text (Words (words_in inner))
+  to_linearize : {text t : _} → Spells text t → IsArgument Linearize text (Tree t)
+  by_name : {text : _} → spells_name text ≡ true → IsArgument AbstractInfo text (Name (encode_utf8_all text))
   all : IsArgument AbstractInfo [] Nothing
 
 -- the rule of a fault of a tree; want of memory is no fault of a text
@@ -233,10 +233,9 @@ tree_rule fault.NoMemory = TreeSyntax
 
 -- the refusal of a text that is no argument of the command: the first fault of a tree, with its offset in bytes
 pub data HasBadArgument : Verb → List ℕ → Refusal → Type 0 where
-  of_tree : {text : List ℕ} {e : TreeErr} → IsRefused text e
-      → HasBadArgument Linearize text (refusal (tree_rule e) (decimal (place_of e) ∷ []))
-  other : {verb : Verb} {text : List ℕ} → verb ≢ Linearize → ((a : Argument) → ¬ IsArgument verb text a)
-      → HasBadArgument verb text (refusal BadArgument [])
+  of_tree : {text e : _} → IsRefused text e → HasBadArgument Linearize text (refusal (tree_rule e) (decimal (place_of e) ∷ []))
+  other : {verb text : _} → verb ≢ Linearize → ((a : Argument) → ¬ IsArgument verb text a) →
+      HasBadArgument verb text (refusal BadArgument [])
 
 -- the command of a text, all of whose options are good
 pub record IsCalled (text : List ℕ) (verb : Verb) : Type 0 where
@@ -245,24 +244,23 @@ pub record IsCalled (text : List ℕ) (verb : Verb) : Type 0 where
 
 -- what the text of a command is read as: the command, or its first refusal; a later command of its pipe may have no argument
 pub data ReadsCommand (later : Bool) (text : List ℕ) : Result Command Refusal → Type 0 where
-  unknown_command : verb_of text ≡ None
-      → ReadsCommand later text (Err (refusal UnknownCommand (encode_utf8_all (name_of text) ∷ [])))
-  option_refused : {verb : Verb} {word : List ℕ} → verb_of text ≡ Some verb
-      → bad_option (keys_of verb) (options_of text) ≡ Some word
-      → ReadsCommand later text (Err (refusal BadOption (encode_utf8_all word ∷ [])))
-  argument_refused : {verb : Verb} {r : Refusal} → IsCalled text verb → (later ≡ true → argument_of text ≢ [])
-      → HasBadArgument verb (argument_of text) r → ReadsCommand later text (Err r)
-  read : {verb : Verb} {a : Argument} → IsCalled text verb → IsArgument verb (argument_of text) a
-      → ReadsCommand later text (Ok (command verb (options_of text) a))
-  read_bare : {verb : Verb} → IsCalled text verb → later ≡ true → argument_of text ≡ []
-      → ReadsCommand later text (Ok (command verb (options_of text) Nothing))
+  unknown_command : verb_of text ≡ None →
+      ReadsCommand later text (Err (refusal UnknownCommand (encode_utf8_all (name_of text) ∷ [])))
+  option_refused : {verb word : _} → verb_of text ≡ Some verb → bad_option (keys_of verb) (options_of text) ≡ Some word →
+      ReadsCommand later text (Err (refusal BadOption (encode_utf8_all word ∷ [])))
+  argument_refused : {verb r : _} → IsCalled text verb → (later ≡ true → argument_of text ≢ []) →
+      HasBadArgument verb (argument_of text) r → ReadsCommand later text (Err r)
+  read : {verb a : _} → IsCalled text verb → IsArgument verb (argument_of text) a →
+      ReadsCommand later text (Ok (command verb (options_of text) a))
+  read_bare : {verb : _} → IsCalled text verb → later ≡ true → argument_of text ≡ [] →
+      ReadsCommand later text (Ok (command verb (options_of text) Nothing))
 
 -- each gives what R says, in order, up to the first refusal
 pub data InTurn {A B : Type 0} (R : A → Result B Refusal → Type 0) : List A → Result (List B) Refusal → Type 0 where
   none : InTurn R [] (Ok [])
-  more : {x : A} {xs : List A} {y : B} {ys : List B} → R x (Ok y) → InTurn R xs (Ok ys) → InTurn R (x ∷ xs) (Ok (y ∷ ys))
-  refused : {x : A} {xs : List A} {r : Refusal} → R x (Err r) → InTurn R (x ∷ xs) (Err r)
-  refused_later : {x : A} {xs : List A} {y : B} {r : Refusal} → R x (Ok y) → InTurn R xs (Err r) → InTurn R (x ∷ xs) (Err r)
+  more : {x xs y ys : _} → R x (Ok y) → InTurn R xs (Ok ys) → InTurn R (x ∷ xs) (Ok (y ∷ ys))
+  refused : {x xs r : _} → R x (Err r) → InTurn R (x ∷ xs) (Err r)
+  refused_later : {x xs y r : _} → R x (Ok y) → InTurn R xs (Err r) → InTurn R (x ∷ xs) (Err r)
 
 -- the texts with whether each is a later one
 abbrev pub in_pipe : List (List ℕ) → List (Bool × List ℕ)
@@ -281,16 +279,14 @@ pub data TakesUp : Verb → Verb → Type 0 where
 
 -- so does each later command, without an argument of its own
 pub data AreJoined : Command → List Command → Type 0 where
-  last : {c : Command} → AreJoined c []
-  next : {c d : Command} {cs : List Command} → TakesUp c.verb d.verb → d.argument ≡ Nothing → AreJoined d cs
-      → AreJoined c (d ∷ cs)
+  last : {c : _} → AreJoined c []
+  next : {c d : Command} {cs : _} → TakesUp c.verb d.verb → d.argument ≡ Nothing → AreJoined d cs → AreJoined c (d ∷ cs)
 
 -- what the text of a pipe is read as
 pub data ReadsPipe (text : List ℕ) : Read → Type 0 where
-  pipe : {c : Command} {cs : List Command} → ReadsCommands text (Ok (c ∷ cs)) → AreJoined c cs → ReadsPipe text (Pipe (c ∷ cs))
-  bad_pipe : {c : Command} {cs : List Command} → ReadsCommands text (Ok (c ∷ cs)) → ¬ AreJoined c cs
-      → ReadsPipe text (Refused (refusal BadPipe []))
-  pipe_refused : {r : Refusal} → ReadsCommands text (Err r) → ReadsPipe text (Refused r)
+  pipe : {c cs : _} → ReadsCommands text (Ok (c ∷ cs)) → AreJoined c cs → ReadsPipe text (Pipe (c ∷ cs))
+  bad_pipe : {c cs : _} → ReadsCommands text (Ok (c ∷ cs)) → ¬ AreJoined c cs → ReadsPipe text (Refused (refusal BadPipe []))
+  pipe_refused : {r : _} → ReadsCommands text (Err r) → ReadsPipe text (Refused r)
 
 -- what the characters of a line are read as: each of its pipes, in order
 abbrev pub ReadsLine : List ℕ → List Read → Type 0

@@ -54,8 +54,7 @@ pub record AreDistinct (vs distinct : List Value) : Type 0 where
 -- how many distinct results there are in each case, summed over the cases
 pub data HasResults : List (List Outcome) → ℕ → Type 0 where
   no_case : HasResults [] 0
-  one_case : {os : List Outcome} {rest : List (List Outcome)} {vs : List Value} {n : ℕ} →
-      AreDistinct (given os) vs → HasResults rest n → HasResults (os ∷ rest) (length vs + n)
+  one_case : {os rest vs n : _} → AreDistinct (given os) vs → HasResults rest n → HasResults (os ∷ rest) (length vs + n)
 
 -- how many cases a category has
 abbrev pub case_count : Flat → List ℕ → List ℕ → ℕ
@@ -68,8 +67,8 @@ pub data Evaluates (flat : Flat) (lang : List ℕ) : Keyword → List ℕ → Li
       Evaluates flat lang K.Lin e.whole.name (map (λ c. c.1) (outcomes_by_case flat lang e.whole.name))
   of_hole : {e : FlatJudgement} → Contains flat.cats e → list_any (is_lindef lang e.whole.name) (items_of flat) ≡ true →
       Evaluates flat lang K.Lindef e.whole.name (hole_outcomes flat lang e.whole.name ∷ [])
-  of_string : {e : FlatJudgement} {T : CType} → Contains flat.cats e →
-      list_any (is_linref lang e.whole.name) (items_of flat) ≡ true → lin_type flat lang e.whole.name ≡ Some T →
+  of_string : {e : FlatJudgement} {T : _} → Contains flat.cats e → list_any (is_linref lang e.whole.name) (items_of flat) ≡ true →
+      lin_type flat lang e.whole.name ≡ Some T →
       Evaluates flat lang K.Linref e.whole.name (map (string_outcomes flat lang e.whole.name) (case_values 0 T))
 
 -- functions come first, by name; then categories, by name, the lindef before the linref
@@ -88,22 +87,21 @@ pub data StandsAt (flat : Flat) (lang : List ℕ) (k : Keyword) (x : List ℕ) :
 pub data BreaksCompiling (flat : Flat) (lang : List ℕ) : Moment → Refusal → Type 0 where
   no_lincat : {e : FlatJudgement} → Contains flat.cats e → list_any (is_lincat lang e.whole.name) (items_of flat) ≡ false →
       BreaksCompiling flat lang (0 ∷ name_moment e.whole.name) (placeless R.NoLincat (lang ∷ e.whole.name ∷ []))
-  too_many_cells : {e : FlatJudgement} {T : CType} {p : Place} → Contains flat.cats e → lin_type flat lang e.whole.name ≡ Some T →
+  too_many_cells : {e : FlatJudgement} {T p : _} → Contains flat.cats e → lin_type flat lang e.whole.name ≡ Some T →
       most_cells < length (cells_of_type T) → StandsAt flat lang K.Lincat e.whole.name p →
       BreaksCompiling flat lang (0 ∷ name_moment e.whole.name) (refusal R.TooManyCells p (lang ∷ e.whole.name ∷ []))
   no_lin : {e : FlatJudgement} → Contains flat.funs e → list_any (is_lin lang e.whole.name) (items_of flat) ≡ false →
       BreaksCompiling flat lang (1 ∷ name_moment e.whole.name) (placeless R.NoLin (lang ∷ e.whole.name ∷ []))
-  too_many_cases : {e : FlatJudgement} {p : Place} → Contains flat.cats e → most_cases < case_count flat lang e.whole.name →
+  too_many_cases : {e : FlatJudgement} {p : _} → Contains flat.cats e → most_cases < case_count flat lang e.whole.name →
       StandsAt flat lang K.Lincat e.whole.name p →
       BreaksCompiling flat lang (2 ∷ name_moment e.whole.name) (refusal R.TooManyCases p (lang ∷ e.whole.name ∷ []))
-  too_many_argument_cases : {e : FlatJudgement} {s : Signature} {p : Place} → Contains flat.funs e →
+  too_many_argument_cases : {e : FlatJudgement} {s : Signature} {p : _} → Contains flat.funs e →
       signature_in flat.funs e.whole.name ≡ Some s → most_cases < product_of (map (case_count flat lang) s.arguments) →
       StandsAt flat lang K.Lin e.whole.name p →
       BreaksCompiling flat lang (turn_of K.Lin e.whole.name ++ 0 ∷ []) (refusal R.TooManyCases p (lang ∷ e.whole.name ∷ []))
-  is_stuck : {k : Keyword} {x : List ℕ} {cases : List (List Outcome)} {stuck : Stuck} → Evaluates flat lang k x cases →
+  is_stuck : {k x cases : _} {stuck : Stuck} → Evaluates flat lang k x cases →
       first_stuck (flat_map (λ os. os) cases) ≡ Some stuck →
       BreaksCompiling flat lang (turn_of k x ++ 1 ∷ []) (refusal (stuck_rule stuck.rule) stuck.place (lang ∷ x ∷ []))
-  too_many_results : {k : Keyword} {x : List ℕ} {cases : List (List Outcome)} {n : ℕ} {p : Place} →
-      Evaluates flat lang k x cases →
-      HasResults cases n → most_results < n → StandsAt flat lang k x p →
+  too_many_results : {k x cases n p : _} → Evaluates flat lang k x cases → HasResults cases n → most_results < n →
+      StandsAt flat lang k x p →
       BreaksCompiling flat lang (turn_of k x ++ 2 ∷ []) (refusal R.TooManyProductions p (lang ∷ x ∷ []))

@@ -123,18 +123,15 @@ field_of l (f ∷ fs) = if bytes_eq l f.0 then Some f.1 else field_of l fs
 mutual
   -- S is a subtype of T
   pub data IsSubtype : CType → CType → Type 0 where
-    equal : {S : CType} → IsSubtype S S
-    fewer_labels : {S T : CType} {fs gs : List (List ℕ × CType)} → out-CType S ≡ CType-F.Record fs →
-        out-CType T ≡ CType-F.Record gs → HasLabels fs gs → IsSubtype S T
-    tables : {S T P V W : CType} → out-CType S ≡ CType-F.Table P V → out-CType T ≡ CType-F.Table P W →
-        IsSubtype V W → IsSubtype S T
-    numbers : {S T : CType} {m n : ℕ} → out-CType S ≡ CType-F.Ints m → out-CType T ≡ CType-F.Ints n →
-        m ≤ n → IsSubtype S T
-    functions : {S T A B C D : CType} → out-CType S ≡ CType-F.Fun A B →
-        out-CType T ≡ CType-F.Fun C D → IsSubtype C A → IsSubtype B D → IsSubtype S T
+    equal : {S : _} → IsSubtype S S
+    fewer_labels : {S T fs gs : _} → out-CType S ≡ CType-F.Record fs → out-CType T ≡ CType-F.Record gs → HasLabels fs gs →
+        IsSubtype S T
+    tables : {S T P V W : _} → out-CType S ≡ CType-F.Table P V → out-CType T ≡ CType-F.Table P W → IsSubtype V W → IsSubtype S T
+    numbers : {S T m n : _} → out-CType S ≡ CType-F.Ints m → out-CType T ≡ CType-F.Ints n → m ≤ n → IsSubtype S T
+    functions : {S T A B C D : _} → out-CType S ≡ CType-F.Fun A B → out-CType T ≡ CType-F.Fun C D → IsSubtype C A →
+        IsSubtype B D → IsSubtype S T
 
   -- the fields have each label of the others, at a subtype
   pub data HasLabels : List (List ℕ × CType) → List (List ℕ × CType) → Type 0 where
-    no_label : {fs : List (List ℕ × CType)} → HasLabels fs []
-    label : {fs gs : List (List ℕ × CType)} {l : List ℕ} {S T : CType} → field_of l fs ≡ Some S →
-        IsSubtype S T → HasLabels fs gs → HasLabels fs ((l, T) ∷ gs)
+    no_label : {fs : _} → HasLabels fs []
+    label : {fs gs l S T : _} → field_of l fs ≡ Some S → IsSubtype S T → HasLabels fs gs → HasLabels fs ((l, T) ∷ gs)

@@ -44,10 +44,9 @@ patterns cs = map (λ c. c.pattern) cs
 
 -- a term of type S where type T is given: as it is, or cut; a term of type PType is a type
 pub data Fits : CType → CType → LinTerm → LinTerm → Type 0 where
-  same : {S : CType} {t : LinTerm} → Fits S S t t
-  cut : {S T : CType} {t : LinTerm} → ¬ (S ≡ T) → IsSubtype S T →
-      Fits S T t (made (Lin-F.Cut t S T))
-  sort : {t : LinTerm} → Fits sort_param sort_type t t
+  same : {S t : _} → Fits S S t t
+  cut : {S T t : _} → ¬ (S ≡ T) → IsSubtype S T → Fits S T t (made (Lin-F.Cut t S T))
+  sort : {t : _} → Fits sort_param sort_type t t
 
 -- a record type
 abbrev pub is_record : CType-F.CType-F CType → Bool
@@ -95,18 +94,15 @@ with_lets (d ∷ ds) t = made (Lin-F.Let d.0 d.1 (with_lets ds t))
 
 -- an application taken apart: its head, which is no application, and its arguments in order
 pub data Spine : Term → List Term → Term → List Term → Type 0 where
-  applied_to : {e f a g : Term} {place : Place} {es bs : List Term} →
-      form e ≡ Term-F.App f a place → Spine f (a ∷ es) g bs → Spine e es g bs
-  at_head : {e : Term} {es : List Term} → ((f a : Term) (place : Place) →
-      ¬ (form e ≡ Term-F.App f a place)) → Spine e es e es
+  applied_to : {e f a g place es bs : _} → form e ≡ Term-F.App f a place → Spine f (a ∷ es) g bs → Spine e es g bs
+  at_head : {e es : _} → ((f a : Term) (place : Place) → ¬ (form e ≡ Term-F.App f a place)) → Spine e es e es
 
 module _ (items : List Item) where
   -- a function that takes as many arguments of these types as it has parameters
   pub data Takes : CType → LinTerm → List CType → List LinTerm → CType → LinTerm → Type 0 where
-    takes_none : {R : CType} {t : LinTerm} → IsData R → Takes R t [] [] R t
-    takes : {F A B S R : CType} {Ss : List CType} {t u v w : LinTerm} {us : List LinTerm} →
-        out-CType F ≡ CType-F.Fun A B → Fits S A u v → Takes B (made (Lin-F.App t v)) Ss us R w →
-        Takes F t (S ∷ Ss) (u ∷ us) R w
+    takes_none : {R t : _} → IsData R → Takes R t [] [] R t
+    takes : {F A B S R Ss t u v w us : _} → out-CType F ≡ CType-F.Fun A B → Fits S A u v →
+        Takes B (made (Lin-F.App t v)) Ss us R w → Takes F t (S ∷ Ss) (u ∷ us) R w
 
   -- the alternative of that number takes the arguments
   pub record Suits (w : Whole) (As : List CType) (us : List LinTerm) (k : ℕ) (R : CType) (u : LinTerm) : Type 0 where
@@ -133,221 +129,144 @@ module _ (items : List Item) where
   mutual
     -- the term has the type where none is given, and means the typed term
     pub data Finds : Scope → Term → CType → LinTerm → Type 0 where
-      variable : {Γ : Scope} {e : Term} {x : List ℕ} {p : Place} {T : CType} →
-          form e ≡ Term-F.Var (Written x) p → field_of x Γ ≡ Some T →
-          Finds Γ e T (made (Lin-F.Var x))
-      constructor_name : {Γ : Scope} {e : Term} {w c : Whole} {cs : List Constructor} {p : Place} {Ts : List CType} {T : CType} →
-          form e ≡ Term-F.Var (WholeName c) p → Stands items c (a_constructor w cs) → IsParameter items w T →
-          Constructs c Ts T → Finds Γ e (functions Ts T) (constructor_term Ts c)
-      typed_oper : {Γ : Scope} {e D : Term} {d : Option Term} {w : Whole} (k : ℕ) {p : Place} {T : CType} →
-          form e ≡ Term-F.Var (WholeName w) p → Stands items w (an_oper k (Some D) d) → IsType items D T →
-          Finds Γ e T (made (Lin-F.Oper k))
-      untyped_oper : {Γ : Scope} {e d : Term} {w : Whole} (k : ℕ) {p : Place} {T : CType} {t : LinTerm} →
-          form e ≡ Term-F.Var (WholeName w) p → Stands items w (an_oper k None (Some d)) →
-          Finds [] d T t → Finds Γ e T (made (Lin-F.Oper k))
-      alternative_alone : {Γ : Scope} {e : Term} {w : Whole} (k : ℕ) {p : Place} {R : CType} {t : LinTerm} →
-          form e ≡ Term-F.Var (WholeName w) p → Stands items w an_overload → Chosen w [] [] k R t →
-          Finds Γ e R t
-      parameter_name : {Γ : Scope} {e : Term} {w : Whole} {p : Place} {T : CType} →
-          form e ≡ Term-F.Var (WholeName w) p → IsParameter items w T → Finds Γ e sort_type no_value
-      type_form : {Γ : Scope} {e : Term} {T : CType} → is_type_form (form e) ≡ true → IsType items e T →
+      variable : {Γ e x p T : _} → form e ≡ Term-F.Var (Written x) p → field_of x Γ ≡ Some T → Finds Γ e T (made (Lin-F.Var x))
+      constructor_name : {Γ e w c cs p Ts T : _} → form e ≡ Term-F.Var (WholeName c) p → Stands items c (a_constructor w cs) →
+          IsParameter items w T → Constructs c Ts T → Finds Γ e (functions Ts T) (constructor_term Ts c)
+      typed_oper : {Γ e D d w : _} (k : ℕ) {p T : _} → form e ≡ Term-F.Var (WholeName w) p →
+          Stands items w (an_oper k (Some D) d) → IsType items D T → Finds Γ e T (made (Lin-F.Oper k))
+      untyped_oper : {Γ e d w : _} (k : ℕ) {p T t : _} → form e ≡ Term-F.Var (WholeName w) p →
+          Stands items w (an_oper k None (Some d)) → Finds [] d T t → Finds Γ e T (made (Lin-F.Oper k))
+      alternative_alone : {Γ e w : _} (k : ℕ) {p R t : _} → form e ≡ Term-F.Var (WholeName w) p → Stands items w an_overload →
+          Chosen w [] [] k R t → Finds Γ e R t
+      parameter_name : {Γ e w p T : _} → form e ≡ Term-F.Var (WholeName w) p → IsParameter items w T →
           Finds Γ e sort_type no_value
-      literal : {Γ : Scope} {e : Term} {text : List ℕ} {p : Place} → form e ≡ Term-F.Lit text p →
-          Finds Γ e str_type (made (Lin-F.Words (words_of text)))
-      append : {Γ : Scope} {e a b : Term} {p : Place} {t u : LinTerm} →
-          form e ≡ Term-F.Concat a b p → Checks Γ a str_type t → Checks Γ b str_type u →
+      type_form : {Γ e T : _} → is_type_form (form e) ≡ true → IsType items e T → Finds Γ e sort_type no_value
+      literal : {Γ e text p : _} → form e ≡ Term-F.Lit text p → Finds Γ e str_type (made (Lin-F.Words (words_of text)))
+      append : {Γ e a b p t u : _} → form e ≡ Term-F.Concat a b p → Checks Γ a str_type t → Checks Γ b str_type u →
           Finds Γ e str_type (made (Lin-F.Concat t u))
-      glue : {Γ : Scope} {e a b : Term} {p : Place} {t u : LinTerm} → form e ≡ Term-F.Glue a b p →
-          Checks Γ a str_type t → Checks Γ b str_type u →
+      glue : {Γ e a b p t u : _} → form e ≡ Term-F.Glue a b p → Checks Γ a str_type t → Checks Γ b str_type u →
           Finds Γ e str_type (made (Lin-F.Glue t u p))
-      number : {Γ : Scope} {e : Term} {n : ℕ} {p : Place} → form e ≡ Term-F.Num n p →
-          Finds Γ e (number_type n) (made (Lin-F.Num n))
-      predef : {Γ : Scope} {e f : Term} {x : List ℕ} {p q : Place} {r : Predef} →
-          form e ≡ Term-F.Proj f x p → form f ≡ Term-F.Sort Sort-V.Predef q →
-          predef_named x ≡ Some r → Finds Γ e predef_type (predef_term r p)
-      projection : {Γ : Scope} {e r : Term} {x : List ℕ} {p : Place} {R T : CType} {fs : FieldTypes} {t : LinTerm} →
-          form e ≡ Term-F.Proj r x p → ((q : Place) →
-          ¬ (form r ≡ Term-F.Sort Sort-V.Predef q)) → Finds Γ r R t →
-          out-CType R ≡ CType-F.Record fs → field_of x fs ≡ Some T →
-          Finds Γ e T (made (Lin-F.Proj t x))
-      application : {Γ : Scope} {e f a : Term} {es : List Term} {F R : CType} {t u : LinTerm} →
-          Spine e [] f (a ∷ es) → Finds Γ f F t → IsHead f → ChecksArguments Γ F t (a ∷ es) R u →
-          Finds Γ e R u
-      overloaded : {Γ : Scope} {e f a : Term} {es : List Term} {w : Whole} (k : ℕ) {p : Place}
-          {As : List CType} {us : List LinTerm} {R : CType} {u : LinTerm} →
-          Spine e [] f (a ∷ es) → form f ≡ Term-F.Var (WholeName w) p → Stands items w an_overload →
-          FindsAll Γ (a ∷ es) As us → Chosen w As us k R u → Finds Γ e R u
-      selection : {Γ : Scope} {e a b : Term} {p : Place} {S P V : CType} {t u : LinTerm} →
-          form e ≡ Term-F.Select a b p → is_table_expression (form a) ≡ false →
-          Finds Γ a S t → out-CType S ≡ CType-F.Table P V → Checks Γ b P u →
-          Finds Γ e V (made (Lin-F.Select t u))
-      branch_over : {Γ : Scope} {e a b P : Term} {cs : List (Case Term)} {p q : Place} {S V : CType}
-          {u : LinTerm} {bs : BranchTerms} →
-          form e ≡ Term-F.Select a b p → form a ≡ Term-F.TableOf (Some P) cs q → IsType items P S →
-          BranchesFind Γ S cs V bs → IsCovered S (patterns cs) → Checks Γ b S u →
+      number : {Γ e n p : _} → form e ≡ Term-F.Num n p → Finds Γ e (number_type n) (made (Lin-F.Num n))
+      predef : {Γ e f x p q r : _} → form e ≡ Term-F.Proj f x p → form f ≡ Term-F.Sort Sort-V.Predef q → predef_named x ≡ Some r →
+          Finds Γ e predef_type (predef_term r p)
+      projection : {Γ e r x p R T fs t : _} → form e ≡ Term-F.Proj r x p →
+          ((q : Place) → ¬ (form r ≡ Term-F.Sort Sort-V.Predef q)) → Finds Γ r R t → out-CType R ≡ CType-F.Record fs →
+          field_of x fs ≡ Some T → Finds Γ e T (made (Lin-F.Proj t x))
+      application : {Γ e f a es F R t u : _} → Spine e [] f (a ∷ es) → Finds Γ f F t → IsHead f →
+          ChecksArguments Γ F t (a ∷ es) R u → Finds Γ e R u
+      overloaded : {Γ e f a es w : _} (k : ℕ) {p As us R u : _} → Spine e [] f (a ∷ es) → form f ≡ Term-F.Var (WholeName w) p →
+          Stands items w an_overload → FindsAll Γ (a ∷ es) As us → Chosen w As us k R u → Finds Γ e R u
+      selection : {Γ e a b p S P V t u : _} → form e ≡ Term-F.Select a b p → is_table_expression (form a) ≡ false →
+          Finds Γ a S t → out-CType S ≡ CType-F.Table P V → Checks Γ b P u → Finds Γ e V (made (Lin-F.Select t u))
+      branch_over : {Γ e a b P cs p q S V u bs : _} → form e ≡ Term-F.Select a b p → form a ≡ Term-F.TableOf (Some P) cs q →
+          IsType items P S → BranchesFind Γ S cs V bs → IsCovered S (patterns cs) → Checks Γ b S u →
           Finds Γ e V (made (Lin-F.Case u (Matched bs) p))
-      branch_of : {Γ : Scope} {e a b : Term} {cs : List (Case Term)} {p q : Place} {S V : CType} {u : LinTerm}
-          {bs : BranchTerms} →
-          form e ≡ Term-F.Select a b p → form a ≡ Term-F.TableOf None cs q → Finds Γ b S u →
-          BranchesFind Γ S cs V bs → IsCovered S (patterns cs) →
+      branch_of : {Γ e a b cs p q S V u bs : _} → form e ≡ Term-F.Select a b p → form a ≡ Term-F.TableOf None cs q →
+          Finds Γ b S u → BranchesFind Γ S cs V bs → IsCovered S (patterns cs) →
           Finds Γ e V (made (Lin-F.Case u (Matched bs) p))
-      item_of : {Γ : Scope} {e a b P : Term} {es : List Term} {p q : Place} {S V : CType} {u : LinTerm} {ts : List LinTerm} →
-          form e ≡ Term-F.Select a b p → form a ≡ Term-F.TableList P es q → IsType items P S →
-          IsDomain S → MembersFind Γ es V ts → count_of S ≤ length es → Checks Γ b S u →
+      item_of : {Γ e a b P es p q S V u ts : _} → form e ≡ Term-F.Select a b p → form a ≡ Term-F.TableList P es q →
+          IsType items P S → IsDomain S → MembersFind Γ es V ts → count_of S ≤ length es → Checks Γ b S u →
           Finds Γ e V (made (Lin-F.Case u (Listed S ts) p))
-      case_found : {Γ : Scope} {e b : Term} {cs : List (Case Term)} {p : Place} {S V : CType} {u : LinTerm} {bs : BranchTerms} →
-          form e ≡ Term-F.CaseOf b cs p → Finds Γ b S u → BranchesFind Γ S cs V bs →
+      case_found : {Γ e b cs p S V u bs : _} → form e ≡ Term-F.CaseOf b cs p → Finds Γ b S u → BranchesFind Γ S cs V bs →
           IsCovered S (patterns cs) → Finds Γ e V (made (Lin-F.Case u (Matched bs) p))
-      table_found : {Γ : Scope} {e P : Term} {cs : List (Case Term)} {p : Place} {S V : CType} {bs : BranchTerms} →
-          form e ≡ Term-F.TableOf (Some P) cs p → IsType items P S → IsDomain S →
-          BranchesFind Γ S cs V bs → Covers S (patterns cs) →
-          Finds Γ e (table_type S V) (made (Lin-F.Table S (Matched bs)))
-      list_found : {Γ : Scope} {e P : Term} {es : List Term} {p : Place} {S V : CType} {ts : List LinTerm} →
-          form e ≡ Term-F.TableList P es p → IsType items P S → IsDomain S → MembersFind Γ es V ts →
-          count_of S ≤ length es → Finds Γ e (table_type S V) (made (Lin-F.Table S (Listed S ts)))
-      record_found : {Γ : Scope} {e : Term} {ls : List (Local Term)} {p : Place} {fs : FieldTypes} {ts : FieldTerms} →
-          form e ≡ Term-F.Fields ls p → FieldsHave Γ [] ls fs ts →
+      table_found : {Γ e P cs p S V bs : _} → form e ≡ Term-F.TableOf (Some P) cs p → IsType items P S → IsDomain S →
+          BranchesFind Γ S cs V bs → Covers S (patterns cs) → Finds Γ e (table_type S V) (made (Lin-F.Table S (Matched bs)))
+      list_found : {Γ e P es p S V ts : _} → form e ≡ Term-F.TableList P es p → IsType items P S → IsDomain S →
+          MembersFind Γ es V ts → count_of S ≤ length es → Finds Γ e (table_type S V) (made (Lin-F.Table S (Listed S ts)))
+      record_found : {Γ e ls p fs ts : _} → form e ≡ Term-F.Fields ls p → FieldsHave Γ [] ls fs ts →
           Finds Γ e (record_type fs) (made (Lin-F.Record ts))
-      extension : {Γ : Scope} {e a b : Term} {p : Place} {S T : CType} {fs gs : FieldTypes} {t u : LinTerm} →
-          form e ≡ Term-F.Extend a b p → Finds Γ a S t → out-CType S ≡ CType-F.Record fs →
-          Finds Γ b T u → out-CType T ≡ CType-F.Record gs →
-          Finds Γ e (record_type (extended fs gs)) (made (Lin-F.Extend t u))
-      typed : {Γ : Scope} {e a b : Term} {p : Place} {T : CType} {t : LinTerm} →
-          form e ≡ Term-F.Typed a b p → IsType items b T → Checks Γ a T t → Finds Γ e T t
-      let_found : {Γ Δ : Scope} {e b : Term} {ls : List (Local Term)} {p : Place} {ds : LocalTerms} {T : CType} {t : LinTerm} →
-          form e ≡ Term-F.Let ls b p → Defines Γ ls Δ ds → Finds Δ b T t →
+      extension : {Γ e a b p S T fs gs t u : _} → form e ≡ Term-F.Extend a b p → Finds Γ a S t → out-CType S ≡ CType-F.Record fs →
+          Finds Γ b T u → out-CType T ≡ CType-F.Record gs → Finds Γ e (record_type (extended fs gs)) (made (Lin-F.Extend t u))
+      typed : {Γ e a b p T t : _} → form e ≡ Term-F.Typed a b p → IsType items b T → Checks Γ a T t → Finds Γ e T t
+      let_found : {Γ Δ e b ls p ds T t : _} → form e ≡ Term-F.Let ls b p → Defines Γ ls Δ ds → Finds Δ b T t →
           Finds Γ e T (with_lets ds t)
-      variants_found : {Γ : Scope} {e : Term} {es : List Term} {p : Place} {T : CType} {ts : List LinTerm} →
-          form e ≡ Term-F.Variants es p → MembersFind Γ es T ts →
+      variants_found : {Γ e es p T ts : _} → form e ≡ Term-F.Variants es p → MembersFind Γ es T ts →
           Finds Γ e T (made (Lin-F.Variants ts))
 
     -- the term fits the given type, and means the typed term
     pub data Checks : Scope → Term → CType → LinTerm → Type 0 where
-      lambda : {Γ : Scope} {e b : Term} {xs : List Bind} {p : Place} {T : CType} {t : LinTerm} →
-          form e ≡ Term-F.Fun xs b p → ChecksLambda Γ xs b T t → Checks Γ e T t
-      table_lambda : {Γ : Scope} {e b : Term} {xs : List Bind} {p : Place} {T : CType} {t : LinTerm} →
-          form e ≡ Term-F.TabFun xs b p → ChecksTable Γ xs b T t → Checks Γ e T t
-      branches : {Γ : Scope} {e : Term} {cs : List (Case Term)} {p : Place} {T P V : CType} {bs : BranchTerms} →
-          form e ≡ Term-F.TableOf None cs p → out-CType T ≡ CType-F.Table P V →
-          BranchesCheck Γ P cs V bs → Covers P (patterns cs) →
+      lambda : {Γ e b xs p T t : _} → form e ≡ Term-F.Fun xs b p → ChecksLambda Γ xs b T t → Checks Γ e T t
+      table_lambda : {Γ e b xs p T t : _} → form e ≡ Term-F.TabFun xs b p → ChecksTable Γ xs b T t → Checks Γ e T t
+      branches : {Γ e cs p T P V bs : _} → form e ≡ Term-F.TableOf None cs p → out-CType T ≡ CType-F.Table P V →
+          BranchesCheck Γ P cs V bs → Covers P (patterns cs) → Checks Γ e T (made (Lin-F.Table P (Matched bs)))
+      branches_over : {Γ e D cs p T P V bs : _} → form e ≡ Term-F.TableOf (Some D) cs p → out-CType T ≡ CType-F.Table P V →
+          IsType items D P → BranchesCheck Γ P cs V bs → Covers P (patterns cs) →
           Checks Γ e T (made (Lin-F.Table P (Matched bs)))
-      branches_over : {Γ : Scope} {e D : Term} {cs : List (Case Term)} {p : Place} {T P V : CType} {bs : BranchTerms} →
-          form e ≡ Term-F.TableOf (Some D) cs p → out-CType T ≡ CType-F.Table P V → IsType items D P →
-          BranchesCheck Γ P cs V bs → Covers P (patterns cs) →
-          Checks Γ e T (made (Lin-F.Table P (Matched bs)))
-      listed : {Γ : Scope} {e D : Term} {es : List Term} {p : Place} {T P V : CType} {ts : List LinTerm} →
-          form e ≡ Term-F.TableList D es p → out-CType T ≡ CType-F.Table P V → IsType items D P →
-          MembersCheck Γ es V ts → count_of P ≤ length es →
-          Checks Γ e T (made (Lin-F.Table P (Listed P ts)))
-      record_given : {Γ : Scope} {e : Term} {ls : List (Local Term)} {p : Place} {T : CType}
-          {fs gs : FieldTypes} {ts : FieldTerms} {t : LinTerm} →
-          form e ≡ Term-F.Fields ls p → out-CType T ≡ CType-F.Record gs →
-          FieldsHave Γ gs ls fs ts → Fits (record_type fs) T (made (Lin-F.Record ts)) t →
-          Checks Γ e T t
-      let_given : {Γ Δ : Scope} {e b : Term} {ls : List (Local Term)} {p : Place} {ds : LocalTerms} {T : CType} {t : LinTerm} →
-          form e ≡ Term-F.Let ls b p → Defines Γ ls Δ ds → Checks Δ b T t →
+      listed : {Γ e D es p T P V ts : _} → form e ≡ Term-F.TableList D es p → out-CType T ≡ CType-F.Table P V → IsType items D P →
+          MembersCheck Γ es V ts → count_of P ≤ length es → Checks Γ e T (made (Lin-F.Table P (Listed P ts)))
+      record_given : {Γ e ls p T fs gs ts t : _} → form e ≡ Term-F.Fields ls p → out-CType T ≡ CType-F.Record gs →
+          FieldsHave Γ gs ls fs ts → Fits (record_type fs) T (made (Lin-F.Record ts)) t → Checks Γ e T t
+      let_given : {Γ Δ e b ls p ds T t : _} → form e ≡ Term-F.Let ls b p → Defines Γ ls Δ ds → Checks Δ b T t →
           Checks Γ e T (with_lets ds t)
-      case_given : {Γ : Scope} {e b : Term} {cs : List (Case Term)} {p : Place} {S T : CType} {u : LinTerm} {bs : BranchTerms} →
-          form e ≡ Term-F.CaseOf b cs p → Finds Γ b S u → BranchesCheck Γ S cs T bs →
+      case_given : {Γ e b cs p S T u bs : _} → form e ≡ Term-F.CaseOf b cs p → Finds Γ b S u → BranchesCheck Γ S cs T bs →
           IsCovered S (patterns cs) → Checks Γ e T (made (Lin-F.Case u (Matched bs) p))
-      variants_given : {Γ : Scope} {e : Term} {es : List Term} {p : Place} {T : CType} {ts : List LinTerm} →
-          form e ≡ Term-F.Variants es p → MembersCheck Γ es T ts →
+      variants_given : {Γ e es p T ts : _} → form e ≡ Term-F.Variants es p → MembersCheck Γ es T ts →
           Checks Γ e T (made (Lin-F.Variants ts))
-      empty_type : {Γ : Scope} {e : Term} {p : Place} → form e ≡ Term-F.Fields [] p →
-          Checks Γ e sort_type no_value
-      parameter_given : {Γ : Scope} {e : Term} {w c : Whole} {ds : List (Whole × List CType)} {p : Place}
-          {T : CType} {t : LinTerm} →
-          form e ≡ Term-F.Var (WholeName w) p → Finds Γ e sort_type t → IsType items e T →
+      empty_type : {Γ e p : _} → form e ≡ Term-F.Fields [] p → Checks Γ e sort_type no_value
+      parameter_given : {Γ e w c ds p T t : _} → form e ≡ Term-F.Var (WholeName w) p → Finds Γ e sort_type t → IsType items e T →
           out-CType T ≡ CType-F.Param c ds → Checks Γ e sort_param t
-      found : {Γ : Scope} {e : Term} {S T : CType} {t u : LinTerm} →
-          passes (form e) (out-CType T) ≡ false → Finds Γ e S t → Fits S T t u → Checks Γ e T u
+      found : {Γ e S T t u : _} → passes (form e) (out-CType T) ≡ false → Finds Γ e S t → Fits S T t u → Checks Γ e T u
 
     -- a lambda of several variables is one in another
     pub data ChecksLambda : Scope → List Bind → Term → CType → LinTerm → Type 0 where
-      body : {Γ : Scope} {b : Term} {T : CType} {t : LinTerm} → Checks Γ b T t →
-          ChecksLambda Γ [] b T t
-      binds : {Γ : Scope} {x : Bind} {xs : List Bind} {b : Term} {T A B : CType} {t : LinTerm} →
-          out-CType T ≡ CType-F.Fun A B → ChecksLambda (with_bound x A Γ) xs b B t →
+      body : {Γ b T t : _} → Checks Γ b T t → ChecksLambda Γ [] b T t
+      binds : {Γ x xs b T A B t : _} → out-CType T ≡ CType-F.Fun A B → ChecksLambda (with_bound x A Γ) xs b B t →
           ChecksLambda Γ (x ∷ xs) b T (made (Lin-F.Lambda (bound x) t))
 
     -- \\x => e is the table of the one branch x => e
     pub data ChecksTable : Scope → List Bind → Term → CType → LinTerm → Type 0 where
-      cell : {Γ : Scope} {b : Term} {T : CType} {t : LinTerm} → Checks Γ b T t →
-          ChecksTable Γ [] b T t
-      over : {Γ : Scope} {x : Bind} {xs : List Bind} {b : Term} {T P V : CType} {t : LinTerm} →
-          out-CType T ≡ CType-F.Table P V → ChecksTable (with_bound x P Γ) xs b V t →
+      cell : {Γ b T t : _} → Checks Γ b T t → ChecksTable Γ [] b T t
+      over : {Γ x xs b T P V t : _} → out-CType T ≡ CType-F.Table P V → ChecksTable (with_bound x P Γ) xs b V t →
           ChecksTable Γ (x ∷ xs) b T (made (Lin-F.Table P (Matched ((bound_pattern x, t) ∷ []))))
 
     -- the arguments of a function, one after the other
     pub data ChecksArguments : Scope → CType → LinTerm → List Term → CType → LinTerm → Type 0 where
-      no_argument_left : {Γ : Scope} {T : CType} {t : LinTerm} → ChecksArguments Γ T t [] T t
-      next_argument : {Γ : Scope} {F A B R : CType} {t u v : LinTerm} {a : Term} {es : List Term} →
-          out-CType F ≡ CType-F.Fun A B → Checks Γ a A u →
+      no_argument_left : {Γ T t : _} → ChecksArguments Γ T t [] T t
+      next_argument : {Γ F A B R t u v a es : _} → out-CType F ≡ CType-F.Fun A B → Checks Γ a A u →
           ChecksArguments Γ B (made (Lin-F.App t u)) es R v → ChecksArguments Γ F t (a ∷ es) R v
 
     -- terms with the types that are found for them
     pub data FindsAll : Scope → List Term → List CType → List LinTerm → Type 0 where
-      none_found : {Γ : Scope} → FindsAll Γ [] [] []
-      next_found : {Γ : Scope} {e : Term} {es : List Term} {T : CType} {Ts : List CType} {t : LinTerm} {ts : List LinTerm} →
-          Finds Γ e T t → FindsAll Γ es Ts ts → FindsAll Γ (e ∷ es) (T ∷ Ts) (t ∷ ts)
+      none_found : {Γ : _} → FindsAll Γ [] [] []
+      next_found : {Γ e es T Ts t ts : _} → Finds Γ e T t → FindsAll Γ es Ts ts → FindsAll Γ (e ∷ es) (T ∷ Ts) (t ∷ ts)
 
     -- members of data: the type of the first is found, and the others are given it
     pub data MembersFind : Scope → List Term → CType → List LinTerm → Type 0 where
-      first_member : {Γ : Scope} {e : Term} {es : List Term} {T : CType} {t : LinTerm} {ts : List LinTerm} →
-          Finds Γ e T t → IsData T → MembersCheck Γ es T ts → MembersFind Γ (e ∷ es) T (t ∷ ts)
+      first_member : {Γ e es T t ts : _} → Finds Γ e T t → IsData T → MembersCheck Γ es T ts → MembersFind Γ (e ∷ es) T (t ∷ ts)
 
     -- members that are given a type
     pub data MembersCheck : Scope → List Term → CType → List LinTerm → Type 0 where
-      no_member : {Γ : Scope} {T : CType} → MembersCheck Γ [] T []
-      member : {Γ : Scope} {e : Term} {es : List Term} {T : CType} {t : LinTerm} {ts : List LinTerm} →
-          Checks Γ e T t → IsData T → MembersCheck Γ es T ts → MembersCheck Γ (e ∷ es) T (t ∷ ts)
+      no_member : {Γ T : _} → MembersCheck Γ [] T []
+      member : {Γ e es T t ts : _} → Checks Γ e T t → IsData T → MembersCheck Γ es T ts → MembersCheck Γ (e ∷ es) T (t ∷ ts)
 
     -- branches in the same way, each under its pattern's variables
-    pub data BranchesFind : Scope → CType → List (Case Term) → CType → BranchTerms →
-        Type 0 where
-      first_branch : {Γ Δ : Scope} {P V : CType} {c : Case Term} {cs : List (Case Term)} {t : LinTerm} {bs : BranchTerms} →
-          PatternFits P c.pattern Δ → Finds (Δ ++ Γ) c.body V t → IsData V →
-          BranchesCheck Γ P cs V bs → BranchesFind Γ P (c ∷ cs) V ((c.pattern, t) ∷ bs)
+    pub data BranchesFind : Scope → CType → List (Case Term) → CType → BranchTerms → Type 0 where
+      first_branch : {Γ Δ P V : _} {c : Case Term} {cs t bs : _} → PatternFits P c.pattern Δ → Finds (Δ ++ Γ) c.body V t →
+          IsData V → BranchesCheck Γ P cs V bs → BranchesFind Γ P (c ∷ cs) V ((c.pattern, t) ∷ bs)
 
     -- branches whose bodies are given a type
-    pub data BranchesCheck : Scope → CType → List (Case Term) → CType → BranchTerms →
-        Type 0 where
-      no_branch : {Γ : Scope} {P V : CType} → BranchesCheck Γ P [] V []
-      branch : {Γ Δ : Scope} {P V : CType} {c : Case Term} {cs : List (Case Term)} {t : LinTerm} {bs : BranchTerms} →
-          PatternFits P c.pattern Δ → Checks (Δ ++ Γ) c.body V t → IsData V →
+    pub data BranchesCheck : Scope → CType → List (Case Term) → CType → BranchTerms → Type 0 where
+      no_branch : {Γ P V : _} → BranchesCheck Γ P [] V []
+      branch : {Γ Δ P V : _} {c : Case Term} {cs t bs : _} → PatternFits P c.pattern Δ → Checks (Δ ++ Γ) c.body V t → IsData V →
           BranchesCheck Γ P cs V bs → BranchesCheck Γ P (c ∷ cs) V ((c.pattern, t) ∷ bs)
 
     -- fields of data as written: one whose label has a given type is given it, one with a type of its
     -- own is given that, and every other is found
     pub data FieldsHave : Scope → FieldTypes → List (Local Term) → FieldTypes → FieldTerms → Type 0 where
-      no_field : {Γ : Scope} {gs : FieldTypes} → FieldsHave Γ gs [] [] []
-      value_given : {Γ : Scope} {gs fs : FieldTypes} {x : List ℕ} {e : Term} {ls : List (Local Term)}
-          {ts : FieldTerms} {T : CType} {t : LinTerm} →
-          field_of x gs ≡ Some T → Checks Γ e T t → FieldsHave Γ gs ls fs ts →
+      no_field : {Γ gs : _} → FieldsHave Γ gs [] [] []
+      value_given : {Γ gs fs x e ls ts T t : _} → field_of x gs ≡ Some T → Checks Γ e T t → FieldsHave Γ gs ls fs ts →
           FieldsHave Γ gs (Value (x ∷ []) e ∷ ls) ((x, T) ∷ fs) ((x, t) ∷ ts)
-      value_found : {Γ : Scope} {gs fs : FieldTypes} {x : List ℕ} {e : Term} {ls : List (Local Term)}
-          {ts : FieldTerms} {T : CType} {t : LinTerm} →
-          field_of x gs ≡ None → Finds Γ e T t → IsData T → FieldsHave Γ gs ls fs ts →
+      value_found : {Γ gs fs x e ls ts T t : _} → field_of x gs ≡ None → Finds Γ e T t → IsData T → FieldsHave Γ gs ls fs ts →
           FieldsHave Γ gs (Value (x ∷ []) e ∷ ls) ((x, T) ∷ fs) ((x, t) ∷ ts)
-      typed_given : {Γ : Scope} {gs fs : FieldTypes} {x : List ℕ} {e D : Term} {ls : List (Local Term)}
-          {ts : FieldTerms} {S T : CType} {t u : LinTerm} →
-          field_of x gs ≡ Some T → IsType items D S → Checks Γ e S t → Fits S T t u →
-          FieldsHave Γ gs ls fs ts →
-          FieldsHave Γ gs (TypedValue (x ∷ []) D e ∷ ls) ((x, T) ∷ fs) ((x, u) ∷ ts)
-      typed_alone : {Γ : Scope} {gs fs : FieldTypes} {x : List ℕ} {e D : Term} {ls : List (Local Term)}
-          {ts : FieldTerms} {S : CType} {t : LinTerm} →
-          field_of x gs ≡ None → IsType items D S → IsData S → Checks Γ e S t →
-          FieldsHave Γ gs ls fs ts →
-          FieldsHave Γ gs (TypedValue (x ∷ []) D e ∷ ls) ((x, S) ∷ fs) ((x, t) ∷ ts)
+      typed_given : {Γ gs fs x e D ls ts S T t u : _} → field_of x gs ≡ Some T → IsType items D S → Checks Γ e S t →
+          Fits S T t u → FieldsHave Γ gs ls fs ts → FieldsHave Γ gs (TypedValue (x ∷ []) D e ∷ ls) ((x, T) ∷ fs) ((x, u) ∷ ts)
+      typed_alone : {Γ gs fs x e D ls ts S t : _} → field_of x gs ≡ None → IsType items D S → IsData S → Checks Γ e S t →
+          FieldsHave Γ gs ls fs ts → FieldsHave Γ gs (TypedValue (x ∷ []) D e ∷ ls) ((x, S) ∷ fs) ((x, t) ∷ ts)
 
     -- locals of data, each seeing those before it; the names of one do not see each other
-    pub data Defines : Scope → List (Local Term) → Scope → LocalTerms →
-        Type 0 where
-      no_local : {Γ : Scope} → Defines Γ [] Γ []
-      local : {Γ Δ : Scope} {xs : List (List ℕ)} {e : Term} {ls : List (Local Term)} {ds : LocalTerms} {T : CType} {t : LinTerm} →
-          Finds Γ e T t → IsData T → Defines (with_names xs T Γ) ls Δ ds →
+    pub data Defines : Scope → List (Local Term) → Scope → LocalTerms → Type 0 where
+      no_local : {Γ : _} → Defines Γ [] Γ []
+      local : {Γ Δ xs e ls ds T t : _} → Finds Γ e T t → IsData T → Defines (with_names xs T Γ) ls Δ ds →
           Defines Γ (Value xs e ∷ ls) Δ ((xs, t) ∷ ds)
-      typed_local : {Γ Δ : Scope} {xs : List (List ℕ)} {e D : Term} {ls : List (Local Term)} {ds : LocalTerms}
-          {T : CType} {t : LinTerm} →
-          IsType items D T → IsData T → Checks Γ e T t → Defines (with_names xs T Γ) ls Δ ds →
-          Defines Γ (TypedValue xs D e ∷ ls) Δ ((xs, t) ∷ ds)
+      typed_local : {Γ Δ xs e D ls ds T t : _} → IsType items D T → IsData T → Checks Γ e T t →
+          Defines (with_names xs T Γ) ls Δ ds → Defines Γ (TypedValue xs D e ∷ ls) Δ ((xs, t) ∷ ds)

@@ -111,9 +111,8 @@ is_complete_concrete h = false
 module _ (mods : List Module) where
   -- a module rests on itself, on what it names, and so on
   pub data RestsOn : List ℕ → List ℕ → Type 0 where
-    itself : {M : List ℕ} → RestsOn M M
-    through : {M K : List ℕ} {m : Module} {n : PlacedName} →
-        Is mods M m → Contains (mentions m) n → RestsOn n.name K → RestsOn M K
+    itself : {M : _} → RestsOn M M
+    through : {M K m : _} {n : PlacedName} → Is mods M m → Contains (mentions m) n → RestsOn n.name K → RestsOn M K
 
   -- the one thing that a name in a judgement means; several are no fault where the name is not used
   pub record IsMeaning (d : Declared) (w : Written) (whole : Whole) : Type 0 where
@@ -177,13 +176,11 @@ module _ (mods : List Module) where
 
   -- the abstract part: that of the abstract module among the chosen ones, or none
   pub data HasAbstract (chosen : List (List ℕ)) (flat : Flat) : Type 0 where
-    of_module : {m : Module} (n : PlacedName) →
-        Contains chosen n.name → Is mods n.name m → m.header ≡ Abstract n → flat.name ≡ Some n.name →
-        flat.start ≡ Some (start_of (map (λ e. e.whole.name) flat.cats) (judgements_of m)) →
+    of_module : {m : Module} (n : PlacedName) → Contains chosen n.name → Is mods n.name m → m.header ≡ Abstract n →
+        flat.name ≡ Some n.name → flat.start ≡ Some (start_of (map (λ e. e.whole.name) flat.cats) (judgements_of m)) →
         AreExactly flat.cats (HasEntry categories n.name) → AreExactly flat.funs (HasEntry functions n.name) →
         HasAbstract chosen flat
-    of_none : ((m : Module) (n : PlacedName) →
-        Contains chosen n.name → Is mods n.name m → ¬ (m.header ≡ Abstract n)) →
+    of_none : ((m : Module) (n : PlacedName) → Contains chosen n.name → Is mods n.name m → ¬ (m.header ≡ Abstract n)) →
         flat.name ≡ None → flat.start ≡ None → flat.cats ≡ [] → flat.funs ≡ [] → HasAbstract chosen flat
 
   -- a name of a complete concrete module

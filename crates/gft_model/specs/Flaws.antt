@@ -17,24 +17,21 @@ pub data Flaw : Type 0 where
 mutual
   -- the first flaw in a tree, its parts looked at first and from left to right
   pub data HasFlaw (a : Abstract) (T : HoleTypes) : Tree → Flaw → Type 0 where
-    application : {t : Tree} {f : Fun} {ts : List Tree} {flaw : Flaw} → Contains a.funs f → IsApplication t f.name ts
-        → HaveFlaw a T [] f.args ts flaw → HasFlaw a T t flaw
+    application : {t : _} {f : Fun} {ts flaw : _} → Contains a.funs f → IsApplication t f.name ts →
+        HaveFlaw a T [] f.args ts flaw → HasFlaw a T t flaw
 
   -- the first flaw in trees for types, of which each is over the trees before it: each tree is compared once its own
   -- parts are looked at, trees past the last type are typed by themselves, and their number is looked at last
   pub data HaveFlaw (a : Abstract) (T : HoleTypes) : List Tree → List AType → List Tree → Flaw → Type 0 where
-    inside : {before : List Tree} {types : List AType} {t : Tree} {ts : List Tree} {flaw : Flaw}
-        → HasFlaw a T t flaw → HaveFlaw a T before types (t ∷ ts) flaw
-    other_type : {before : List Tree} {type found : AType} {types : List AType} {t : Tree} {ts : List Tree}
-        → HasType a T t found → found ≢ type_at before type → HaveFlaw a T before (type ∷ types) (t ∷ ts) index_type
-    later : {before : List Tree} {type : AType} {types : List AType} {t : Tree} {ts : List Tree} {flaw : Flaw}
-        → HasType a T t (type_at before type) → HaveFlaw a T (before ++ t ∷ []) types ts flaw
-        → HaveFlaw a T before (type ∷ types) (t ∷ ts) flaw
-    past : {before : List Tree} {found : AType} {t : Tree} {ts : List Tree} {flaw : Flaw} → HasType a T t found
-        → HaveFlaw a T before [] ts flaw → HaveFlaw a T before [] (t ∷ ts) flaw
-    too_many : {before : List Tree} {found : AType} {t : Tree} → HasType a T t found
-        → HaveFlaw a T before [] (t ∷ []) arity
-    too_few : {before : List Tree} {type : AType} {types : List AType} → HaveFlaw a T before (type ∷ types) [] arity
+    inside : {before types t ts flaw : _} → HasFlaw a T t flaw → HaveFlaw a T before types (t ∷ ts) flaw
+    other_type : {before type found types t ts : _} → HasType a T t found → found ≢ type_at before type →
+        HaveFlaw a T before (type ∷ types) (t ∷ ts) index_type
+    later : {before type types t ts flaw : _} → HasType a T t (type_at before type) →
+        HaveFlaw a T (before ++ t ∷ []) types ts flaw → HaveFlaw a T before (type ∷ types) (t ∷ ts) flaw
+    past : {before found t ts flaw : _} → HasType a T t found → HaveFlaw a T before [] ts flaw →
+        HaveFlaw a T before [] (t ∷ ts) flaw
+    too_many : {before found t : _} → HasType a T t found → HaveFlaw a T before [] (t ∷ []) arity
+    too_few : {before type types : _} → HaveFlaw a T before (type ∷ types) [] arity
 
 -- the first flaw of a type: of its indices for the types of its category's context
 pub record HasTypeFlaw (a : Abstract) (T : HoleTypes) (type : AType) (flaw : Flaw) : Type 0 where
@@ -44,8 +41,7 @@ pub record HasTypeFlaw (a : Abstract) (T : HoleTypes) (type : AType) (flaw : Fla
 
 -- the first flaw of types of arguments, each over those before it
 pub data HaveTypesFlaw (a : Abstract) : List AType → List AType → Flaw → Type 0 where
-  here : {before : List AType} {type : AType} {types : List AType} {flaw : Flaw}
-      → HasTypeFlaw a (numbered_from 1 before) type flaw → HaveTypesFlaw a before (type ∷ types) flaw
-  later : {before : List AType} {type : AType} {types : List AType} {flaw : Flaw}
-      → IsType a (numbered_from 1 before) type → HaveTypesFlaw a (before ++ type ∷ []) types flaw
-      → HaveTypesFlaw a before (type ∷ types) flaw
+  here : {before type types flaw : _} → HasTypeFlaw a (numbered_from 1 before) type flaw →
+      HaveTypesFlaw a before (type ∷ types) flaw
+  later : {before type types flaw : _} → IsType a (numbered_from 1 before) type →
+      HaveTypesFlaw a (before ++ type ∷ []) types flaw → HaveTypesFlaw a before (type ∷ types) flaw

@@ -15,27 +15,21 @@ IsPinned f n node = (slice_get f.nodes n ≡ Some node) × (node.pins ≢ [])
 mutual
   -- the node of the number holds the run
   pub data HoldsAt (f : Forest) (c : Concrete) : ℕ → Run → Type 0 where
-    unpinned : {n : ℕ} {node : Node} {r : Run} → slice_get f.nodes n ≡ Some node → node.pins ≡ []
-        → IsOpen r node.nonterminal → HoldsAt f c n r
-    number : {n i : ℕ} {node : Node} {r : Run} → IsPinned f n node → Contains node.alts (alt.Int i)
-        → IsNumber r i → HoldsAt f c n r
-    string : {n : ℕ} {w : List ℕ} {node : Node} {r : Run} → IsPinned f n node
-        → Contains node.alts (alt.Str w) → IsText r w → HoldsAt f c n r
-    application : {n p : ℕ} {parts : List (Option ℕ)} {node : Node} {prod : Prod} {r : Run}
-        {rs : List Run} → IsPinned f n node
-        → Contains node.alts (alt.App p parts) → slice_get c.prods p ≡ Some prod → IsApplied r p rs
-        → HoldAll f c parts prod.args rs
-        → HoldsAt f c n r
+    unpinned : {n : _} {node : Node} {r : _} → slice_get f.nodes n ≡ Some node → node.pins ≡ [] → IsOpen r node.nonterminal →
+        HoldsAt f c n r
+    number : {n i : _} {node : Node} {r : _} → IsPinned f n node → Contains node.alts (alt.Int i) → IsNumber r i →
+        HoldsAt f c n r
+    string : {n w : _} {node : Node} {r : _} → IsPinned f n node → Contains node.alts (alt.Str w) → IsText r w → HoldsAt f c n r
+    application : {n p parts : _} {node : Node} {prod : Prod} {r rs : _} → IsPinned f n node →
+        Contains node.alts (alt.App p parts) → slice_get c.prods p ≡ Some prod → IsApplied r p rs →
+        HoldAll f c parts prod.args rs → HoldsAt f c n r
 
   -- each part holds its run: a node one that it holds, and no node the hole of the argument's nonterminal
   pub data HoldAll (f : Forest) (c : Concrete) : List (Option ℕ) → List ℕ → List Run → Type 0 where
     none : HoldAll f c [] [] []
-    node : {n a : ℕ} {parts : List (Option ℕ)} {args : List ℕ} {r : Run} {rs : List Run}
-        → HoldsAt f c n r → HoldAll f c parts args rs
-        → HoldAll f c (Some n ∷ parts) (a ∷ args) (r ∷ rs)
-    hole : {a : ℕ} {parts : List (Option ℕ)} {args : List ℕ} {r : Run} {rs : List Run} → IsOpen r a
-        → HoldAll f c parts args rs
-        → HoldAll f c (None ∷ parts) (a ∷ args) (r ∷ rs)
+    node : {n a parts args r rs : _} → HoldsAt f c n r → HoldAll f c parts args rs →
+        HoldAll f c (Some n ∷ parts) (a ∷ args) (r ∷ rs)
+    hole : {a parts args r rs : _} → IsOpen r a → HoldAll f c parts args rs → HoldAll f c (None ∷ parts) (a ∷ args) (r ∷ rs)
 
 -- the forest holds the run: one of its roots does
 abbrev pub Holds : Forest → Concrete → Run → Type 0

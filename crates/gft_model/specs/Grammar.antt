@@ -187,185 +187,142 @@ pub data SortWord : Word → Sort → Type 0 where
 
 -- the tokens up to the rest spell the part
 pub data Spells : (g : Part) → Tokens → Meaning g → Tokens → Type 0 where
-  one : {g : Part} {s : Sign} {ts rest : Tokens} {a : Meaning g} →
-      Spells g ts a rest → Spells (listed s g) ts (a ∷ []) rest
-  more : {g : Part} {s : Sign} {ts us rest : Tokens} {t : SourceToken} {a : Meaning g} {bs : List (Meaning g)} →
-      Spells g ts a (t ∷ us) → Is s t → Spells (listed s g) us bs rest →
+  one : {g s ts rest a : _} → Spells g ts a rest → Spells (listed s g) ts (a ∷ []) rest
+  more : {g s ts us rest t a bs : _} → Spells g ts a (t ∷ us) → Is s t → Spells (listed s g) us bs rest →
       Spells (listed s g) ts (a ∷ bs) rest
-  empty : {g : Part} {ts : Tokens} → Spells (semicolons g) ts [] ts
-  last : {g : Part} {ts rest : Tokens} {a : Meaning g} →
-      Spells g ts a rest → Spells (semicolons g) ts (a ∷ []) rest
-  next : {g : Part} {ts us rest : Tokens} {t : SourceToken} {a : Meaning g} {bs : List (Meaning g)} →
-      Spells g ts a (t ∷ us) → Is S.Semicolon t → Spells (semicolons g) us bs rest →
+  empty : {g ts : _} → Spells (semicolons g) ts [] ts
+  last : {g ts rest a : _} → Spells g ts a rest → Spells (semicolons g) ts (a ∷ []) rest
+  next : {g ts us rest t a bs : _} → Spells g ts a (t ∷ us) → Is S.Semicolon t → Spells (semicolons g) us bs rest →
       Spells (semicolons g) ts (a ∷ bs) rest
-  none : {g : Part} {ts : Tokens} → Spells (many g) ts [] ts
-  some : {g : Part} {ts us rest : Tokens} {a : Meaning g} {bs : List (Meaning g)} →
-      Spells g ts a us → Spells (many g) us bs rest → Spells (many g) ts (a ∷ bs) rest
-  a_name : {x : List ℕ} {t : SourceToken} {ts : Tokens} → IsNamed x t → Spells name (t ∷ ts) x ts
-  a_variable : {x : List ℕ} {t : SourceToken} {ts : Tokens} → IsNamed x t →
-      Spells bind (t ∷ ts) (Variable x t.place) ts
-  no_variable : {t : SourceToken} {ts : Tokens} → Is S.Underscore t →
-      Spells bind (t ∷ ts) (Nothing t.place) ts
-  a_placed_name : {x : List ℕ} {t : SourceToken} {ts : Tokens} → IsNamed x t →
-      Spells placed_name (t ∷ ts) (placed x t) ts
-  category_alone : {x : List ℕ} {t : SourceToken} {ts : Tokens} → IsNamed x t →
-      Spells category_name (t ∷ ts) (placed x t) ts
-  category_of_lists : {x : List ℕ} {l t r : SourceToken} {ts : Tokens} → Is S.LeftBracket l → IsNamed x t →
-      Is S.RightBracket r → Spells category_name (l ∷ t ∷ r ∷ ts) (placed (list_name x) l) ts
-  infix_term : {ts us rest : Tokens} {t : SourceToken} {e a b : Term} {p : Place} {i j k : Level} {s : Sign} {form : TermForm} →
-      Infix i j s k form → Spells (term j) ts a (t ∷ us) → Is s t → Spells (term k) us b rest →
-      FirstAt ts p → out-Term e ≡ form a b p → Spells (term i) ts e rest
-  tighter_term : {ts rest : Tokens} {e : Term} {i j : Level} → Tighter i j →
-      Spells (term j) ts e rest → Spells (term i) ts e rest
-  lambda : {ts us rest : Tokens} {t u : SourceToken} {e b : Term} {xs : List Bind} {s a : Sign}
-      {form : List Bind → Term → Place → T.Term-F Term} →
-      Lambda s a form → Is s t → Spells (listed S.Comma bind) ts xs (u ∷ us) → Is a u →
-      Spells (term exp) us b rest → out-Term e ≡ form xs b t.place → Spells (term exp) (t ∷ ts) e rest
-  arrow_from : {ts us vs rest : Tokens} {t c d u : SourceToken} {e a b : Term} {xs : List Bind} →
-      Is S.LeftParenthesis t → Spells (listed S.Comma bind) ts xs (c ∷ us) → Is S.Colon c →
-      Spells (term exp) us a (d ∷ u ∷ vs) → Is S.RightParenthesis d → Is S.Arrow u →
-      Spells (term exp) vs b rest → out-Term e ≡ T.Arrow xs a b t.place → Spells (term exp) (t ∷ ts) e rest
-  let_in : {ts us rest : Tokens} {t u : SourceToken} {e b : Term} {ls : List (Local Term)} →
-      IsReserved W.Let t → Spells (semicolons local) ts ls (u ∷ us) → IsReserved W.InWord u →
-      list_all is_value ls ≡ true → Spells (term exp) us b rest → out-Term e ≡ T.Let ls b t.place →
+  none : {g ts : _} → Spells (many g) ts [] ts
+  some : {g ts us rest a bs : _} → Spells g ts a us → Spells (many g) us bs rest → Spells (many g) ts (a ∷ bs) rest
+  a_name : {x t ts : _} → IsNamed x t → Spells name (t ∷ ts) x ts
+  a_variable : {x : _} {t : SourceToken} {ts : _} → IsNamed x t → Spells bind (t ∷ ts) (Variable x t.place) ts
+  no_variable : {t : SourceToken} {ts : _} → Is S.Underscore t → Spells bind (t ∷ ts) (Nothing t.place) ts
+  a_placed_name : {x t ts : _} → IsNamed x t → Spells placed_name (t ∷ ts) (placed x t) ts
+  category_alone : {x t ts : _} → IsNamed x t → Spells category_name (t ∷ ts) (placed x t) ts
+  category_of_lists : {x l t r ts : _} → Is S.LeftBracket l → IsNamed x t → Is S.RightBracket r →
+      Spells category_name (l ∷ t ∷ r ∷ ts) (placed (list_name x) l) ts
+  infix_term : {ts us rest t e a b p i j k s form : _} → Infix i j s k form → Spells (term j) ts a (t ∷ us) → Is s t →
+      Spells (term k) us b rest → FirstAt ts p → out-Term e ≡ form a b p → Spells (term i) ts e rest
+  tighter_term : {ts rest e i j : _} → Tighter i j → Spells (term j) ts e rest → Spells (term i) ts e rest
+  lambda : {ts us rest : _} {t : SourceToken} {u e b xs s a form : _} → Lambda s a form → Is s t →
+      Spells (listed S.Comma bind) ts xs (u ∷ us) → Is a u → Spells (term exp) us b rest → out-Term e ≡ form xs b t.place →
       Spells (term exp) (t ∷ ts) e rest
-  let_braces : {ts us rest : Tokens} {t l r u : SourceToken} {e b : Term} {ls : List (Local Term)} →
-      IsReserved W.Let t → Is S.LeftBrace l → Spells (semicolons local) ts ls (r ∷ u ∷ us) →
-      Is S.RightBrace r → IsReserved W.InWord u → list_all is_value ls ≡ true → Spells (term exp) us b rest →
-      out-Term e ≡ T.Let ls b t.place → Spells (term exp) (t ∷ l ∷ ts) e rest
-  where_locals : {ts us rest : Tokens} {t l r : SourceToken} {e b : Term} {ls : List (Local Term)} {p : Place} →
-      Spells (term exp3) ts b (t ∷ l ∷ us) → IsReserved W.Where t → Is S.LeftBrace l →
-      Spells (semicolons local) us ls (r ∷ rest) → Is S.RightBrace r → list_all is_value ls ≡ true →
+  arrow_from : {ts us vs rest : _} {t : SourceToken} {c d u e a b xs : _} → Is S.LeftParenthesis t →
+      Spells (listed S.Comma bind) ts xs (c ∷ us) → Is S.Colon c → Spells (term exp) us a (d ∷ u ∷ vs) → Is S.RightParenthesis d →
+      Is S.Arrow u → Spells (term exp) vs b rest → out-Term e ≡ T.Arrow xs a b t.place → Spells (term exp) (t ∷ ts) e rest
+  let_in : {ts us rest : _} {t : SourceToken} {u e b ls : _} → IsReserved W.Let t → Spells (semicolons local) ts ls (u ∷ us) →
+      IsReserved W.InWord u → list_all is_value ls ≡ true → Spells (term exp) us b rest → out-Term e ≡ T.Let ls b t.place →
+      Spells (term exp) (t ∷ ts) e rest
+  let_braces : {ts us rest : _} {t : SourceToken} {l r u e b ls : _} → IsReserved W.Let t → Is S.LeftBrace l →
+      Spells (semicolons local) ts ls (r ∷ u ∷ us) → Is S.RightBrace r → IsReserved W.InWord u → list_all is_value ls ≡ true →
+      Spells (term exp) us b rest → out-Term e ≡ T.Let ls b t.place → Spells (term exp) (t ∷ l ∷ ts) e rest
+  where_locals : {ts us rest t l r e b ls p : _} → Spells (term exp3) ts b (t ∷ l ∷ us) → IsReserved W.Where t →
+      Is S.LeftBrace l → Spells (semicolons local) us ls (r ∷ rest) → Is S.RightBrace r → list_all is_value ls ≡ true →
       FirstAt ts p → out-Term e ≡ T.Let ls b p → Spells (term exp) ts e rest
-  table : {ts rest : Tokens} {t l r : SourceToken} {e : Term} {cs : List (Case Term)} →
-      IsReserved W.Table t → Is S.LeftBrace l → Spells (semicolons branch) ts cs (r ∷ rest) →
-      Is S.RightBrace r → out-Term e ≡ T.TableOf None cs t.place → Spells (term exp3) (t ∷ l ∷ ts) e rest
-  table_over : {ts us rest : Tokens} {t l r : SourceToken} {e a : Term} {cs : List (Case Term)} →
-      IsReserved W.Table t → Spells (term exp6) ts a (l ∷ us) → Is S.LeftBrace l →
-      Spells (semicolons branch) us cs (r ∷ rest) → Is S.RightBrace r →
+  table : {ts rest : _} {t : SourceToken} {l r e cs : _} → IsReserved W.Table t → Is S.LeftBrace l →
+      Spells (semicolons branch) ts cs (r ∷ rest) → Is S.RightBrace r → out-Term e ≡ T.TableOf None cs t.place →
+      Spells (term exp3) (t ∷ l ∷ ts) e rest
+  table_over : {ts us rest : _} {t : SourceToken} {l r e a cs : _} → IsReserved W.Table t → Spells (term exp6) ts a (l ∷ us) →
+      Is S.LeftBrace l → Spells (semicolons branch) us cs (r ∷ rest) → Is S.RightBrace r →
       out-Term e ≡ T.TableOf (Some a) cs t.place → Spells (term exp3) (t ∷ ts) e rest
-  table_list : {ts us rest : Tokens} {t l r : SourceToken} {e a : Term} {es : List Term} →
-      IsReserved W.Table t → Spells (term exp6) ts a (l ∷ us) → Is S.LeftBracket l →
-      Spells (semicolons (term exp)) us es (r ∷ rest) → Is S.RightBracket r →
+  table_list : {ts us rest : _} {t : SourceToken} {l r e a es : _} → IsReserved W.Table t → Spells (term exp6) ts a (l ∷ us) →
+      Is S.LeftBracket l → Spells (semicolons (term exp)) us es (r ∷ rest) → Is S.RightBracket r →
       out-Term e ≡ T.TableList a es t.place → Spells (term exp3) (t ∷ ts) e rest
-  application : {ts us rest : Tokens} {e f a : Term} {p : Place} → Spells (term exp4) ts f us →
-      Spells (term exp5) us a rest → FirstAt ts p → out-Term e ≡ T.App f a p → Spells (term exp4) ts e rest
-  case_of : {ts us rest : Tokens} {t o l r : SourceToken} {e a : Term} {cs : List (Case Term)} →
-      IsReserved W.Case t → Spells (term exp) ts a (o ∷ l ∷ us) → IsReserved W.Of o → Is S.LeftBrace l →
-      Spells (semicolons branch) us cs (r ∷ rest) → Is S.RightBrace r →
+  application : {ts us rest e f a p : _} → Spells (term exp4) ts f us → Spells (term exp5) us a rest → FirstAt ts p →
+      out-Term e ≡ T.App f a p → Spells (term exp4) ts e rest
+  case_of : {ts us rest : _} {t : SourceToken} {o l r e a cs : _} → IsReserved W.Case t → Spells (term exp) ts a (o ∷ l ∷ us) →
+      IsReserved W.Of o → Is S.LeftBrace l → Spells (semicolons branch) us cs (r ∷ rest) → Is S.RightBrace r →
       out-Term e ≡ T.CaseOf a cs t.place → Spells (term exp4) (t ∷ ts) e rest
-  variants : {ts rest : Tokens} {t l r : SourceToken} {e : Term} {es : List Term} →
-      IsReserved W.Variants t → Is S.LeftBrace l → Spells (semicolons (term exp)) ts es (r ∷ rest) →
-      Is S.RightBrace r → out-Term e ≡ T.Variants es t.place → Spells (term exp4) (t ∷ l ∷ ts) e rest
-  projection : {ts rest : Tokens} {d t : SourceToken} {e a : Term} {x : List ℕ} {p : Place} →
-      Spells (term exp5) ts a (d ∷ t ∷ rest) → Is S.Dot d → IsNamed x t → FirstAt ts p →
+  variants : {ts rest : _} {t : SourceToken} {l r e es : _} → IsReserved W.Variants t → Is S.LeftBrace l →
+      Spells (semicolons (term exp)) ts es (r ∷ rest) → Is S.RightBrace r → out-Term e ≡ T.Variants es t.place →
+      Spells (term exp4) (t ∷ l ∷ ts) e rest
+  projection : {ts rest d t e a x p : _} → Spells (term exp5) ts a (d ∷ t ∷ rest) → Is S.Dot d → IsNamed x t → FirstAt ts p →
       out-Term e ≡ T.Proj a x p → Spells (term exp5) ts e rest
-  variable : {ts : Tokens} {t : SourceToken} {e : Term} {x : List ℕ} → IsNamed x t →
-      out-Term e ≡ T.Var (Written x) t.place → Spells (term exp6) (t ∷ ts) e ts
-  literal : {ts : Tokens} {t : SourceToken} {e : Term} {x : List ℕ} → IsQuoted x t →
-      out-Term e ≡ T.Lit x t.place → Spells (term exp6) (t ∷ ts) e ts
-  literal_in_brackets : {ts : Tokens} {l t r : SourceToken} {e : Term} {x : List ℕ} → Is S.LeftBracket l →
-      IsQuoted x t → Is S.RightBracket r → out-Term e ≡ T.Lit x l.place → Spells (term exp6) (l ∷ t ∷ r ∷ ts) e ts
-  number : {ts : Tokens} {t : SourceToken} {e : Term} {n : ℕ} → IsNumber n t →
-      out-Term e ≡ T.Num n t.place → Spells (term exp6) (t ∷ ts) e ts
-  no_words : {ts : Tokens} {l r : SourceToken} {e : Term} → Is S.LeftBracket l → Is S.RightBracket r →
-      out-Term e ≡ T.Empty l.place → Spells (term exp6) (l ∷ r ∷ ts) e ts
-  list_category : {ts : Tokens} {l t r : SourceToken} {e : Term} {x : List ℕ} → Is S.LeftBracket l →
-      IsNamed x t → Is S.RightBracket r → out-Term e ≡ T.ListCat (Written x) l.place →
-      Spells (term exp6) (l ∷ t ∷ r ∷ ts) e ts
-  sort : {ts : Tokens} {t : SourceToken} {e : Term} {w : Word} {s : Sort} → SortWord w s → IsReserved w t →
-      out-Term e ≡ T.Sort s t.place → Spells (term exp6) (t ∷ ts) e ts
-  fields : {ts rest : Tokens} {t u : SourceToken} {e : Term} {ls : List (Local Term)} → Is S.LeftBrace t →
-      Spells (semicolons local) ts ls (u ∷ rest) → Is S.RightBrace u → are_fields ls ≡ true →
-      out-Term e ≡ T.Fields ls t.place → Spells (term exp6) (t ∷ ts) e rest
-  tuple : {ts rest : Tokens} {t u : SourceToken} {e : Term} {es : List Term} → Is S.Less t →
-      Spells (listed S.Comma (term exp)) ts es (u ∷ rest) → Is S.Greater u →
-      out-Term e ≡ T.Tuple es t.place → Spells (term exp6) (t ∷ ts) e rest
-  typed : {ts us rest : Tokens} {t c u : SourceToken} {e a b : Term} → Is S.Less t →
-      Spells (term exp) ts a (c ∷ us) → Is S.Colon c → Spells (term exp) us b (u ∷ rest) → Is S.Greater u →
-      out-Term e ≡ T.Typed a b t.place → Spells (term exp6) (t ∷ ts) e rest
-  in_parentheses : {ts rest : Tokens} {t u : SourceToken} {e : Term} → Is S.LeftParenthesis t →
-      Spells (term exp) ts e (u ∷ rest) → Is S.RightParenthesis u → Spells (term exp6) (t ∷ ts) e rest
-  local_value : {ts us rest : Tokens} {t : SourceToken} {xs : List (List ℕ)} {e : Term} →
-      Spells (listed S.Comma name) ts xs (t ∷ us) → Is S.Equals t → Spells (term exp) us e rest →
-      Spells local ts (Value xs e) rest
-  local_type : {ts us rest : Tokens} {t : SourceToken} {xs : List (List ℕ)} {a : Term} →
-      Spells (listed S.Comma name) ts xs (t ∷ us) → Is S.Colon t → Spells (term exp) us a rest →
-      Spells local ts (Label xs a) rest
-  typed_local : {ts us vs rest : Tokens} {t u : SourceToken} {xs : List (List ℕ)} {a e : Term} →
-      Spells (listed S.Comma name) ts xs (t ∷ us) → Is S.Colon t → Spells (term exp) us a (u ∷ vs) →
-      Is S.Equals u → Spells (term exp) vs e rest → Spells local ts (TypedValue xs a e) rest
-  a_branch : {ts us rest : Tokens} {t : SourceToken} {p : Pattern} {e : Term} →
-      Spells (pattern patt) ts p (t ∷ us) → Is S.DoubleArrow t → Spells (term exp) us e rest →
+  variable : {ts : _} {t : SourceToken} {e x : _} → IsNamed x t → out-Term e ≡ T.Var (Written x) t.place →
+      Spells (term exp6) (t ∷ ts) e ts
+  literal : {ts : _} {t : SourceToken} {e x : _} → IsQuoted x t → out-Term e ≡ T.Lit x t.place →
+      Spells (term exp6) (t ∷ ts) e ts
+  literal_in_brackets : {ts : _} {l : SourceToken} {t r e x : _} → Is S.LeftBracket l → IsQuoted x t → Is S.RightBracket r →
+      out-Term e ≡ T.Lit x l.place → Spells (term exp6) (l ∷ t ∷ r ∷ ts) e ts
+  number : {ts : _} {t : SourceToken} {e n : _} → IsNumber n t → out-Term e ≡ T.Num n t.place → Spells (term exp6) (t ∷ ts) e ts
+  no_words : {ts : _} {l : SourceToken} {r e : _} → Is S.LeftBracket l → Is S.RightBracket r → out-Term e ≡ T.Empty l.place →
+      Spells (term exp6) (l ∷ r ∷ ts) e ts
+  list_category : {ts : _} {l : SourceToken} {t r e x : _} → Is S.LeftBracket l → IsNamed x t → Is S.RightBracket r →
+      out-Term e ≡ T.ListCat (Written x) l.place → Spells (term exp6) (l ∷ t ∷ r ∷ ts) e ts
+  sort : {ts : _} {t : SourceToken} {e w s : _} → SortWord w s → IsReserved w t → out-Term e ≡ T.Sort s t.place →
+      Spells (term exp6) (t ∷ ts) e ts
+  fields : {ts rest : _} {t : SourceToken} {u e ls : _} → Is S.LeftBrace t → Spells (semicolons local) ts ls (u ∷ rest) →
+      Is S.RightBrace u → are_fields ls ≡ true → out-Term e ≡ T.Fields ls t.place → Spells (term exp6) (t ∷ ts) e rest
+  tuple : {ts rest : _} {t : SourceToken} {u e es : _} → Is S.Less t → Spells (listed S.Comma (term exp)) ts es (u ∷ rest) →
+      Is S.Greater u → out-Term e ≡ T.Tuple es t.place → Spells (term exp6) (t ∷ ts) e rest
+  typed : {ts us rest : _} {t : SourceToken} {c u e a b : _} → Is S.Less t → Spells (term exp) ts a (c ∷ us) → Is S.Colon c →
+      Spells (term exp) us b (u ∷ rest) → Is S.Greater u → out-Term e ≡ T.Typed a b t.place → Spells (term exp6) (t ∷ ts) e rest
+  in_parentheses : {ts rest t u e : _} → Is S.LeftParenthesis t → Spells (term exp) ts e (u ∷ rest) → Is S.RightParenthesis u →
+      Spells (term exp6) (t ∷ ts) e rest
+  local_value : {ts us rest t xs e : _} → Spells (listed S.Comma name) ts xs (t ∷ us) → Is S.Equals t →
+      Spells (term exp) us e rest → Spells local ts (Value xs e) rest
+  local_type : {ts us rest t xs a : _} → Spells (listed S.Comma name) ts xs (t ∷ us) → Is S.Colon t →
+      Spells (term exp) us a rest → Spells local ts (Label xs a) rest
+  typed_local : {ts us vs rest t u xs a e : _} → Spells (listed S.Comma name) ts xs (t ∷ us) → Is S.Colon t →
+      Spells (term exp) us a (u ∷ vs) → Is S.Equals u → Spells (term exp) vs e rest → Spells local ts (TypedValue xs a e) rest
+  a_branch : {ts us rest t p e : _} → Spells (pattern patt) ts p (t ∷ us) → Is S.DoubleArrow t → Spells (term exp) us e rest →
       Spells branch ts (record { pattern = p; body = e }) rest
-  an_alternative : {ts us vs rest : Tokens} {t u : SourceToken} {xs : List (List ℕ)} {a e : Term} →
-      Spells (listed S.Comma name) ts xs (t ∷ us) → Is S.Colon t → Spells (term exp) us a (u ∷ vs) →
-      Is S.Equals u → Spells (term exp) vs e rest →
+  an_alternative : {ts us vs rest t u xs a e : _} → Spells (listed S.Comma name) ts xs (t ∷ us) → Is S.Colon t →
+      Spells (term exp) us a (u ∷ vs) → Is S.Equals u → Spells (term exp) vs e rest →
       Spells alternative ts (record { names = xs; of_type = a; value = e }) rest
-  with_variables : {ts us rest : Tokens} {t c d : SourceToken} {xs : List Bind} {a : Term} →
-      Is S.LeftParenthesis t → Spells (listed S.Comma bind) ts xs (c ∷ us) → Is S.Colon c →
-      Spells (term exp) us a (d ∷ rest) → Is S.RightParenthesis d →
+  with_variables : {ts us rest t c d xs a : _} → Is S.LeftParenthesis t → Spells (listed S.Comma bind) ts xs (c ∷ us) →
+      Is S.Colon c → Spells (term exp) us a (d ∷ rest) → Is S.RightParenthesis d →
       Spells context (t ∷ ts) (record { binds = xs; of_type = a }) rest
-  without_variables : {ts rest : Tokens} {a : Term} → Spells (term exp6) ts a rest →
+  without_variables : {ts rest a : _} → Spells (term exp6) ts a rest →
       Spells context ts (record { binds = []; of_type = a }) rest
-  a_constructor : {ts rest : Tokens} {t : SourceToken} {x : List ℕ} {cs : List Context} → IsNamed x t →
-      Spells (many context) ts cs rest →
+  a_constructor : {ts rest t x cs : _} → IsNamed x t → Spells (many context) ts cs rest →
       Spells constructor (t ∷ ts) (record { name = placed x t; arguments = cs }) rest
-  infix_pattern : {ts us rest : Tokens} {t : SourceToken} {r p q : Pattern} {a : Place}
-      {i j k : PatternLevel} {s : Sign} {form : PatternForm} →
-      InfixPattern i j s k form → Spells (pattern j) ts p (t ∷ us) → Is s t → Spells (pattern k) us q rest →
-      FirstAt ts a → out-Pattern r ≡ form p q a → Spells (pattern i) ts r rest
-  tighter_pattern : {ts rest : Tokens} {r : Pattern} {i j : PatternLevel} → TighterPattern i j →
-      Spells (pattern j) ts r rest → Spells (pattern i) ts r rest
-  constructor_with : {ts rest : Tokens} {t : SourceToken} {x : List ℕ} {r p : Pattern} {ps : List Pattern} →
-      IsNamed x t → Spells (many (pattern patt4)) ts (p ∷ ps) rest →
-      out-Pattern r ≡ P.Con None (Written x) (p ∷ ps) t.place → Spells (pattern patt2) (t ∷ ts) r rest
-  constructor_of : {ts rest : Tokens} {t d u : SourceToken} {Q x : List ℕ} {r : Pattern} {ps : List Pattern} →
-      IsNamed Q t → Is S.Dot d → IsNamed x u → Spells (many (pattern patt4)) ts ps rest →
-      out-Pattern r ≡ P.Con (Some Q) (Written x) ps t.place → Spells (pattern patt2) (t ∷ d ∷ u ∷ ts) r rest
-  star : {ts rest : Tokens} {t : SourceToken} {r p : Pattern} {a : Place} →
-      Spells (pattern patt4) ts p (t ∷ rest) → Is S.Star t → FirstAt ts a →
+  infix_pattern : {ts us rest t r p q a i j k s form : _} → InfixPattern i j s k form → Spells (pattern j) ts p (t ∷ us) →
+      Is s t → Spells (pattern k) us q rest → FirstAt ts a → out-Pattern r ≡ form p q a → Spells (pattern i) ts r rest
+  tighter_pattern : {ts rest r i j : _} → TighterPattern i j → Spells (pattern j) ts r rest → Spells (pattern i) ts r rest
+  constructor_with : {ts rest : _} {t : SourceToken} {x r p ps : _} → IsNamed x t →
+      Spells (many (pattern patt4)) ts (p ∷ ps) rest → out-Pattern r ≡ P.Con None (Written x) (p ∷ ps) t.place →
+      Spells (pattern patt2) (t ∷ ts) r rest
+  constructor_of : {ts rest : _} {t : SourceToken} {d u Q x r ps : _} → IsNamed Q t → Is S.Dot d → IsNamed x u →
+      Spells (many (pattern patt4)) ts ps rest → out-Pattern r ≡ P.Con (Some Q) (Written x) ps t.place →
+      Spells (pattern patt2) (t ∷ d ∷ u ∷ ts) r rest
+  star : {ts rest t r p a : _} → Spells (pattern patt4) ts p (t ∷ rest) → Is S.Star t → FirstAt ts a →
       out-Pattern r ≡ P.Star p a → Spells (pattern patt3) ts r rest
-  as_pattern : {ts rest : Tokens} {t u : SourceToken} {x : List ℕ} {r p : Pattern} → IsNamed x t → Is S.At u →
-      Spells (pattern patt4) ts p rest → out-Pattern r ≡ P.As x p t.place →
-      Spells (pattern patt3) (t ∷ u ∷ ts) r rest
-  anything : {ts : Tokens} {t : SourceToken} {r : Pattern} → Is S.Underscore t →
-      out-Pattern r ≡ P.Any t.place → Spells (pattern patt4) (t ∷ ts) r ts
-  character : {ts : Tokens} {t : SourceToken} {r : Pattern} → Is S.Question t →
-      out-Pattern r ≡ P.One t.place → Spells (pattern patt4) (t ∷ ts) r ts
-  named_pattern : {ts : Tokens} {t : SourceToken} {x : List ℕ} {r : Pattern} → IsNamed x t →
-      out-Pattern r ≡ P.Name (Written x) t.place → Spells (pattern patt4) (t ∷ ts) r ts
-  text_pattern : {ts : Tokens} {t : SourceToken} {x : List ℕ} {r : Pattern} → IsQuoted x t →
-      out-Pattern r ≡ P.Text x t.place → Spells (pattern patt4) (t ∷ ts) r ts
-  number_pattern : {ts : Tokens} {t : SourceToken} {n : ℕ} {r : Pattern} → IsNumber n t →
-      out-Pattern r ≡ P.Num n t.place → Spells (pattern patt4) (t ∷ ts) r ts
-  record_pattern : {ts rest : Tokens} {t u : SourceToken} {r : Pattern} {fs : List (PatternField Pattern)} →
-      Is S.LeftBrace t → Spells (semicolons field) ts fs (u ∷ rest) → Is S.RightBrace u →
-      distinct (flat_map (λ f. f.labels) fs) ≡ true → out-Pattern r ≡ P.Fields fs t.place →
+  as_pattern : {ts rest : _} {t : SourceToken} {u x r p : _} → IsNamed x t → Is S.At u → Spells (pattern patt4) ts p rest →
+      out-Pattern r ≡ P.As x p t.place → Spells (pattern patt3) (t ∷ u ∷ ts) r rest
+  anything : {ts : _} {t : SourceToken} {r : _} → Is S.Underscore t → out-Pattern r ≡ P.Any t.place →
+      Spells (pattern patt4) (t ∷ ts) r ts
+  character : {ts : _} {t : SourceToken} {r : _} → Is S.Question t → out-Pattern r ≡ P.One t.place →
+      Spells (pattern patt4) (t ∷ ts) r ts
+  named_pattern : {ts : _} {t : SourceToken} {x r : _} → IsNamed x t → out-Pattern r ≡ P.Name (Written x) t.place →
+      Spells (pattern patt4) (t ∷ ts) r ts
+  text_pattern : {ts : _} {t : SourceToken} {x r : _} → IsQuoted x t → out-Pattern r ≡ P.Text x t.place →
+      Spells (pattern patt4) (t ∷ ts) r ts
+  number_pattern : {ts : _} {t : SourceToken} {n r : _} → IsNumber n t → out-Pattern r ≡ P.Num n t.place →
+      Spells (pattern patt4) (t ∷ ts) r ts
+  record_pattern : {ts rest : _} {t : SourceToken} {u r fs : _} → Is S.LeftBrace t → Spells (semicolons field) ts fs (u ∷ rest) →
+      Is S.RightBrace u → distinct (flat_map (λ f. f.labels) fs) ≡ true → out-Pattern r ≡ P.Fields fs t.place →
       Spells (pattern patt4) (t ∷ ts) r rest
-  tuple_pattern : {ts rest : Tokens} {t u : SourceToken} {r : Pattern} {ps : List Pattern} → Is S.Less t →
-      Spells (listed S.Comma (pattern patt)) ts ps (u ∷ rest) → Is S.Greater u →
-      out-Pattern r ≡ P.Tuple ps t.place → Spells (pattern patt4) (t ∷ ts) r rest
-  pattern_in_parentheses : {ts rest : Tokens} {t u : SourceToken} {r : Pattern} → Is S.LeftParenthesis t →
-      Spells (pattern patt) ts r (u ∷ rest) → Is S.RightParenthesis u → Spells (pattern patt4) (t ∷ ts) r rest
-  a_field : {ts us rest : Tokens} {t : SourceToken} {xs : List (List ℕ)} {p : Pattern} →
-      Spells (listed S.Comma name) ts xs (t ∷ us) → Is S.Equals t → Spells (pattern patt) us p rest →
-      Spells field ts (record { labels = xs; pattern = p }) rest
-  whole : {ts : Tokens} {t : SourceToken} {x : List ℕ} → IsNamed x t →
-      Spells inherited (t ∷ ts) (Whole (placed x t)) ts
-  only : {ts rest : Tokens} {t l r : SourceToken} {x : List ℕ} {ns : List PlacedName} → IsNamed x t →
-      Is S.LeftBracket l → Spells (listed S.Comma placed_name) ts ns (r ∷ rest) → Is S.RightBracket r →
-      Spells inherited (t ∷ l ∷ ts) (Only (placed x t) ns) rest
-  except : {ts rest : Tokens} {t m l r : SourceToken} {x : List ℕ} {ns : List PlacedName} → IsNamed x t →
-      Is S.Minus m → Is S.LeftBracket l → Spells (listed S.Comma placed_name) ts ns (r ∷ rest) →
-      Is S.RightBracket r → Spells inherited (t ∷ m ∷ l ∷ ts) (Except (placed x t) ns) rest
-  plainly : {ts : Tokens} {t : SourceToken} {x : List ℕ} → IsNamed x t →
-      Spells opened (t ∷ ts) (Plain (placed x t)) ts
-  by_alias : {ts : Tokens} {l s e t r : SourceToken} {q x : List ℕ} → Is S.LeftParenthesis l → IsNamed q s →
-      Is S.Equals e → IsNamed x t → Is S.RightParenthesis r →
-      Spells opened (l ∷ s ∷ e ∷ t ∷ r ∷ ts) (Qualified (placed q s) (placed x t)) ts
-  instance_of : {ts : Tokens} {l s e t r : SourceToken} {i j : List ℕ} → Is S.LeftParenthesis l → IsNamed i s →
-      Is S.Equals e → IsNamed j t → Is S.RightParenthesis r →
+  tuple_pattern : {ts rest : _} {t : SourceToken} {u r ps : _} → Is S.Less t →
+      Spells (listed S.Comma (pattern patt)) ts ps (u ∷ rest) → Is S.Greater u → out-Pattern r ≡ P.Tuple ps t.place →
+      Spells (pattern patt4) (t ∷ ts) r rest
+  pattern_in_parentheses : {ts rest t u r : _} → Is S.LeftParenthesis t → Spells (pattern patt) ts r (u ∷ rest) →
+      Is S.RightParenthesis u → Spells (pattern patt4) (t ∷ ts) r rest
+  a_field : {ts us rest t xs p : _} → Spells (listed S.Comma name) ts xs (t ∷ us) → Is S.Equals t →
+      Spells (pattern patt) us p rest → Spells field ts (record { labels = xs; pattern = p }) rest
+  whole : {ts t x : _} → IsNamed x t → Spells inherited (t ∷ ts) (Whole (placed x t)) ts
+  only : {ts rest t l r x ns : _} → IsNamed x t → Is S.LeftBracket l → Spells (listed S.Comma placed_name) ts ns (r ∷ rest) →
+      Is S.RightBracket r → Spells inherited (t ∷ l ∷ ts) (Only (placed x t) ns) rest
+  except : {ts rest t m l r x ns : _} → IsNamed x t → Is S.Minus m → Is S.LeftBracket l →
+      Spells (listed S.Comma placed_name) ts ns (r ∷ rest) → Is S.RightBracket r →
+      Spells inherited (t ∷ m ∷ l ∷ ts) (Except (placed x t) ns) rest
+  plainly : {ts t x : _} → IsNamed x t → Spells opened (t ∷ ts) (Plain (placed x t)) ts
+  by_alias : {ts l s e t r q x : _} → Is S.LeftParenthesis l → IsNamed q s → Is S.Equals e → IsNamed x t →
+      Is S.RightParenthesis r → Spells opened (l ∷ s ∷ e ∷ t ∷ r ∷ ts) (Qualified (placed q s) (placed x t)) ts
+  instance_of : {ts l s e t r i j : _} → Is S.LeftParenthesis l → IsNamed i s → Is S.Equals e → IsNamed j t →
+      Is S.RightParenthesis r →
       Spells substitution (l ∷ s ∷ e ∷ t ∷ r ∷ ts) (record { interface = placed i s; instance = placed j t }) ts
 
 -- the tokens up to the rest spell a term of the level

@@ -77,31 +77,25 @@ module _ (mods : List Module) where
 
   -- a kind of module that is typed where it stands, not only in instances
   pub data IsTypedHere : Header → Type 0 where
-    resource : {n : PlacedName} → IsTypedHere (Resource n)
-    instance : {n i : PlacedName} → IsTypedHere (Instance n i)
-    concrete : {n a : PlacedName} → IsTypedHere (Concrete n a)
+    resource : {n : _} → IsTypedHere (Resource n)
+    instance : {n i : _} → IsTypedHere (Instance n i)
+    concrete : {n a : _} → IsTypedHere (Concrete n a)
 
   -- what is broken in a module: its header, names declared twice, names, then types
   pub data BreaksModule (named : Bool) (m : Module) : Moment → Refusal → Type 0 where
-    in_header : {at : Moment} {r : Refusal} → BreaksHeader mods named m at r → BreaksModule named m (0 ∷ at) r
-    twice : {at : Moment} {r : Refusal} → Redefines m at r → BreaksModule named m (1 ∷ at) r
-    in_names : {at : Moment} {r : Refusal} (constructors : List ℕ → Bool) → AreConstructors mods m constructors →
-        BreaksNames mods m constructors at r →
-        BreaksModule named m (2 ∷ at) r
-    in_abstract : {n : PlacedName} {cats funs order again : List FlatJudgement} {k : ℕ} {e : FlatJudgement} {at : Moment}
-        {r : Refusal} →
-        m.header ≡ Abstract n → AreExactly mods cats (HasEntry mods categories n.name) →
-        AreExactly mods funs (HasEntry mods functions n.name) →
+    in_header : {at r : _} → BreaksHeader mods named m at r → BreaksModule named m (0 ∷ at) r
+    twice : {at r : _} → Redefines m at r → BreaksModule named m (1 ∷ at) r
+    in_names : {at r : _} (constructors : List ℕ → Bool) → AreConstructors mods m constructors →
+        BreaksNames mods m constructors at r → BreaksModule named m (2 ∷ at) r
+    in_abstract : {n : PlacedName} {cats funs order again k : _} {e : FlatJudgement} {at r : _} → m.header ≡ Abstract n →
+        AreExactly mods cats (HasEntry mods categories n.name) → AreExactly mods funs (HasEntry mods functions n.name) →
         HasOrder m (cats ++ funs) [] order again → slice_get (order ++ again) k ≡ Some e →
         BreaksAbstract cats funs (LeftOut funs) e.judgement at r → BreaksModule named m (3 ∷ k ∷ at) r
-    in_types : {flat : Flat} {order again : List FlatJudgement} {k : ℕ} {e : FlatJudgement} {at : Moment} {r : Refusal} →
-        IsTypedHere m.header →
-        IsView m flat → HasOrder m (entries_of flat) flat.funs order again →
-        slice_get (order ++ typed_again again) k ≡ Some e →
+    in_types : {flat : Flat} {order again k : _} {e : FlatJudgement} {at r : _} → IsTypedHere m.header → IsView m flat →
+        HasOrder m (entries_of flat) flat.funs order again → slice_get (order ++ typed_again again) k ≡ Some e →
         BreaksTypes flat (header_name m.header).name e.whole e.judgement at r → BreaksModule named m (3 ∷ k ∷ at) r
-    in_instance : {flat : Flat} {order again : List FlatJudgement} {at : Moment} {r : Refusal} → IsView m flat →
-        HasOrder m (entries_of flat) flat.funs order again → BreaksInstance mods m flat order at r →
-        BreaksModule named m (3 ∷ at) r
+    in_instance : {flat : Flat} {order again at r : _} → IsView m flat → HasOrder m (entries_of flat) flat.funs order again →
+        BreaksInstance mods m flat order at r → BreaksModule named m (3 ∷ at) r
 
 -- what typing gives stands in the grammar, for each judgement that has a type
 pub record AreTyped (flat : Flat) : Type 0 where
@@ -112,7 +106,7 @@ pub record AreTyped (flat : Flat) : Type 0 where
 pub data AbstractOf (mods : List Module) (file : List ℕ) : List ℕ → Type 0 where
   itself : {m : Module} {n : PlacedName} → module_named mods (base_of file) ≡ Some m → m.header ≡ Abstract n →
       AbstractOf mods file n.name
-  of_concrete : {m : Module} {n a : PlacedName} → module_named mods (base_of file) ≡ Some m → m.header ≡ Concrete n a →
+  of_concrete : {m : Module} {n : _} {a : PlacedName} → module_named mods (base_of file) ≡ Some m → m.header ≡ Concrete n a →
       AbstractOf mods file a.name
 
 -- the module is a named source
@@ -121,40 +115,32 @@ is_named names m = list_any (λ file. bytes_eq (base_of file) (header_name m.hea
 
 -- the abstract syntax that a named file gives
 pub data HasPart (files : Files) (mods : List Module) (file : List ℕ) : AbstractSyntax → Type 0 where
-  of_its_source : {A : List ℕ} {m : Module} {cats funs : List FlatJudgement} {a : AbstractSyntax} →
-      AbstractOf mods file A → module_named mods A ≡ Some m →
+  of_its_source : {A m cats funs a : _} → AbstractOf mods file A → module_named mods A ≡ Some m →
       AreExactly mods cats (HasEntry mods categories A) → AreExactly mods funs (HasEntry mods functions A) →
       IsAbstractPart cats funs (LeftOut mods funs) A (judgements_of m) a → HasPart files mods file a
-  of_portable : {bytes : List ℕ} {g : Grammar} → EndsIn portable_ending file → get files file ≡ Some bytes →
-      PortableFile.Reads bytes g →
-      HasPart files mods file g.abs
+  of_portable : {bytes : _} {g : Grammar} → EndsIn portable_ending file → get files file ≡ Some bytes →
+      PortableFile.Reads bytes g → HasPart files mods file g.abs
 
 -- the language of a named source that is a concrete module: its grammar, with what typing gives
 pub data HasLanguage (mods : List Module) (file : List ℕ) : List ℕ → Flat → Type 0 where
-  of_module : {m : Module} {n a : PlacedName} {flat : Flat} → module_named mods (base_of file) ≡ Some m →
-      m.header ≡ Concrete n a →
+  of_module : {m : Module} {n : PlacedName} {a flat : _} → module_named mods (base_of file) ≡ Some m → m.header ≡ Concrete n a →
       IsView mods m flat → AreTyped flat → HasLanguage mods file n.name flat
 
 -- what is broken in an import of the named files, in order: loading, each module in turn, the number of
 -- categories, each language, and abstract modules that are not one
 pub data BreaksImport (files : Files) (names : List (List ℕ)) : Moment → Refusal → Type 0 where
-  in_loading : {s : Loading} {r : Refusal} → LoadsNamed files nothing_loaded names (refused r s) →
-      BreaksImport files names (0 ∷ []) r
-  in_module : {s : Loading} {i : ℕ} {m : Module} {at : Moment} {r : Refusal} → LoadsNamed files nothing_loaded names (loaded s) →
-      slice_get s.modules i ≡ Some m → BreaksModule s.modules (is_named names m) m at r → BreaksImport files names (1 ∷ i ∷ at) r
-  too_many_categories : {s : Loading} {file A : List ℕ} {cats : List FlatJudgement} →
-      LoadsNamed files nothing_loaded names (loaded s) →
-      Contains names file → AbstractOf s.modules file A → AreExactly s.modules cats (HasEntry s.modules categories A) →
-      most_categories < length cats → BreaksImport files names (2 ∷ []) (placeless R.TooManyCategories [])
-  in_language : {s : Loading} {i : ℕ} {file lang : List ℕ} {flat : Flat} {at : Moment} {r : Refusal} →
-      LoadsNamed files nothing_loaded names (loaded s) →
+  in_loading : {s r : _} → LoadsNamed files nothing_loaded names (refused r s) → BreaksImport files names (0 ∷ []) r
+  in_module : {s : Loading} {i m at r : _} → LoadsNamed files nothing_loaded names (loaded s) → slice_get s.modules i ≡ Some m →
+      BreaksModule s.modules (is_named names m) m at r → BreaksImport files names (1 ∷ i ∷ at) r
+  too_many_categories : {s : Loading} {file A cats : _} → LoadsNamed files nothing_loaded names (loaded s) → Contains names file →
+      AbstractOf s.modules file A → AreExactly s.modules cats (HasEntry s.modules categories A) → most_categories < length cats →
+      BreaksImport files names (2 ∷ []) (placeless R.TooManyCategories [])
+  in_language : {s : Loading} {i file lang flat at r : _} → LoadsNamed files nothing_loaded names (loaded s) →
       slice_get names i ≡ Some file → HasLanguage s.modules file lang flat → BreaksCompiling flat lang at r →
       BreaksImport files names (3 ∷ i ∷ at) r
-  abstracts_differ : {s : Loading} {file : List ℕ} {rest : List (List ℕ)} {a b : AbstractSyntax} (i : ℕ) {other : List ℕ} →
-      LoadsNamed files nothing_loaded names (loaded s) → names ≡ file ∷ rest → slice_get rest i ≡ Some other →
-      HasPart files s.modules file a →
-      HasPart files s.modules other b → a ≢ b →
-      BreaksImport files names (4 ∷ i ∷ []) (placeless R.AbstractsDiffer (file ∷ other ∷ []))
+  abstracts_differ : {s : Loading} {file rest a b : _} (i : ℕ) {other : _} → LoadsNamed files nothing_loaded names (loaded s) →
+      names ≡ file ∷ rest → slice_get rest i ≡ Some other → HasPart files s.modules file a → HasPart files s.modules other b →
+      a ≢ b → BreaksImport files names (4 ∷ i ∷ []) (placeless R.AbstractsDiffer (file ∷ other ∷ []))
 
 -- an import comes to the load of a file where, without that file, this file is what is missing
 abbrev pub ComesTo : Files → List (List ℕ) → List ℕ → Type 0
@@ -163,12 +149,10 @@ ComesTo files names file =
 
 -- what a named source gives: its abstract syntax, and its language where it is a concrete module
 pub data GivesPart (files : Files) (names : List (List ℕ)) (file : List ℕ) : Loaded → Type 0 where
-  abstract_part : {s : Loading} {m : Module} {n : PlacedName} {a : AbstractSyntax} →
-      LoadsNamed files nothing_loaded names (loaded s) →
+  abstract_part : {s : Loading} {m : Module} {n a : _} → LoadsNamed files nothing_loaded names (loaded s) →
       module_named s.modules (base_of file) ≡ Some m → m.header ≡ Abstract n → HasPart files s.modules file a →
       GivesPart files names file (record { abs = a; languages = [] })
-  with_language : {s : Loading} {lang : List ℕ} {flat : Flat} {a : AbstractSyntax} →
-      LoadsNamed files nothing_loaded names (loaded s) →
+  with_language : {s : Loading} {lang flat a : _} → LoadsNamed files nothing_loaded names (loaded s) →
       HasLanguage s.modules file lang flat → HasPart files s.modules file a →
       GivesPart files names file (record { abs = a; languages = (lang, of_source flat) ∷ [] })
 

@@ -70,32 +70,27 @@ module _ (mods : List Module) (m : Module) (flat : Flat) where
 
   -- the name is that of a parameter type: by a param, by an oper of type PType, or by one that is a param's name
   pub data GivesParameter (w : Whole) : Type 0 where
-    by_param : {cs : List Constructor} → Stands (items flat) w (a_parameter cs) → GivesParameter w
-    by_sort : {k : ℕ} {t : Term} {d : Option Term} → Stands (items flat) w (an_oper k (Some t) d) →
-        IsType (items flat) t sort_param →
-        GivesParameter w
-    by_name : {k : ℕ} {d : Term} {v : Whole} {p : Place} {cs : List Constructor} →
-        Stands (items flat) w (an_oper k None (Some d)) →
-        form d ≡ T.Var (WholeName v) p → Stands (items flat) v (a_parameter cs) → GivesParameter w
+    by_param : {cs : _} → Stands (items flat) w (a_parameter cs) → GivesParameter w
+    by_sort : {k t d : _} → Stands (items flat) w (an_oper k (Some t) d) → IsType (items flat) t sort_param → GivesParameter w
+    by_name : {k d v p cs : _} → Stands (items flat) w (an_oper k None (Some d)) → form d ≡ T.Var (WholeName v) p →
+        Stands (items flat) v (a_parameter cs) → GivesParameter w
 
   -- what the instance gives has another type; types are equal or not, whatever is a subtype of what
   pub data HasAnotherType (w : Whole) (names : Names) : Wanted → Type 0 where
-    other_type : {t : Term} (p : Place) {A B : CType} → IsType (items flat) (resolved names t []) A →
-        ¬ (Stands (items flat) w an_overload) →
-        FoundFor flat (roll-Term (T.Var (WholeName w) p)) [] B → A ≢ B → HasAnotherType w names (a_type t)
-    overload_for_one : {t : Term} → Stands (items flat) w an_overload → HasAnotherType w names (a_type t)
-    one_for_overload : {ts : List Term} → ¬ (Stands (items flat) w an_overload) → HasAnotherType w names (alternatives ts)
-    other_alternatives : {ts : List Term} {As Bs : List CType} →
-        AllZip (λ t A. IsType (items flat) (resolved names t []) A) ts As →
+    other_type : {t : _} (p : Place) {A B : _} → IsType (items flat) (resolved names t []) A →
+        ¬ (Stands (items flat) w an_overload) → FoundFor flat (roll-Term (T.Var (WholeName w) p)) [] B → A ≢ B →
+        HasAnotherType w names (a_type t)
+    overload_for_one : {t : _} → Stands (items flat) w an_overload → HasAnotherType w names (a_type t)
+    one_for_overload : {ts : _} → ¬ (Stands (items flat) w an_overload) → HasAnotherType w names (alternatives ts)
+    other_alternatives : {ts As Bs : _} → AllZip (λ t A. IsType (items flat) (resolved names t []) A) ts As →
         AllZip (IsType (items flat)) (alternative_types w (items flat)) Bs → As ≢ Bs → HasAnotherType w names (alternatives ts)
     no_parameter_type : ¬ (GivesParameter w) → HasAnotherType w names a_parameter_type
 
   -- the turns of a declared type and of its comparison: once the own judgement is typed, by its names in order; of an
   -- inherited one, after all own judgements, by name
   pub data TurnOf (order : List FlatJudgement) (w : Whole) : Moment → Moment → Type 0 where
-    own_turn : {k i : ℕ} {f : FlatJudgement} → slice_get order k ≡ Some f → slice_get (answered None f) i ≡ Some w →
-        TurnOf order w (k ∷ suc (length (judgement_sites w.«module» w.name f.judgement)) ∷ i ∷ 0 ∷ [])
-        (k ∷ suc (length (judgement_sites w.«module» w.name f.judgement)) ∷ i ∷ 1 ∷ [])
+    own_turn : {k i : _} {f : FlatJudgement} → slice_get order k ≡ Some f → slice_get (answered None f) i ≡ Some w →
+        TurnOf order w (k ∷ suc (length (judgement_sites w.«module» w.name f.judgement)) ∷ i ∷ 0 ∷ []) (k ∷ suc (length (judgement_sites w.«module» w.name f.judgement)) ∷ i ∷ 1 ∷ [])
     inherited_turn : ((f : FlatJudgement) → Contains order f → ¬ (Contains (answered None f) w)) →
         TurnOf order w (length order ∷ name_moment w.name ++ 0 ∷ []) (length order ∷ name_moment w.name ++ 1 ∷ [])
 
@@ -107,11 +102,9 @@ module _ (mods : List Module) (m : Module) (flat : Flat) where
 
   -- what is broken where an instance replaces what its interface declares
   pub data BreaksInstance (order : List FlatJudgement) : Moment → Refusal → Type 0 where
-    in_declared_type : {x : List ℕ} {e : Declared} {j : Judgement} {names : Names} {turn after at : Moment} {r : Refusal} →
-        Replaced x e j names → TurnOf order (whole_of x e) turn after →
+    in_declared_type : {x e j names turn after at r : _} → Replaced x e j names → TurnOf order (whole_of x e) turn after →
         BreaksSites flat (map (λ t. type_site any_role (resolved names t [])) (declared_types (wanted_of j))) at r →
         BreaksInstance order (turn ++ at) r
-    of_another_type : {x : List ℕ} {e : Declared} {j text : Judgement} {names : Names} {n : PlacedName} {turn after : Moment} →
-        Replaced x e j names → TurnOf order (whole_of x e) turn after → HasAnotherType (whole_of x e) names (wanted_of j) →
-        Writes mods e text → Contains (placed_names text) n → n.name ≡ x →
-        BreaksInstance order after (refusal R.InstanceType n.place (x ∷ []))
+    of_another_type : {x e j text names : _} {n : PlacedName} {turn after : _} → Replaced x e j names →
+        TurnOf order (whole_of x e) turn after → HasAnotherType (whole_of x e) names (wanted_of j) → Writes mods e text →
+        Contains (placed_names text) n → n.name ≡ x → BreaksInstance order after (refusal R.InstanceType n.place (x ∷ []))

@@ -37,7 +37,7 @@ answered (Some k) e = []
 
 -- a linearization needs the linearization type of a category
 pub data NeedsType (funs : List FlatJudgement) (e : FlatJudgement) : List ℕ → Type 0 where
-  of_argument : {s : Signature} {C : List ℕ} → sort_of e.judgement ≡ Some K.Lin → signature_in funs e.whole.name ≡ Some s →
+  of_argument : {s : Signature} {C : _} → sort_of e.judgement ≡ Some K.Lin → signature_in funs e.whole.name ≡ Some s →
       Contains s.arguments C → NeedsType funs e C
   of_result : {s : Signature} → sort_of e.judgement ≡ Some K.Lin → signature_in funs e.whole.name ≡ Some s →
       NeedsType funs e s.result
@@ -46,32 +46,27 @@ pub data NeedsType (funs : List FlatJudgement) (e : FlatJudgement) : List ℕ �
 
 -- among judgements, one rests on another: it names it, needs it, or rests on what does
 pub data RestsOn (es funs : List FlatJudgement) : FlatJudgement → FlatJudgement → Type 0 where
-  by_name : {e f : FlatJudgement} {w : Whole} → Contains es e → Contains es f → Contains (names_within e.judgement) w →
+  by_name : {e f : FlatJudgement} {w : _} → Contains es e → Contains es f → Contains (names_within e.judgement) w →
       Contains (answered (sort_of f.judgement) f) w → RestsOn es funs e f
-  by_lincat : {e f : FlatJudgement} {C : List ℕ} → Contains es e → Contains es f → NeedsType funs e C →
-      sort_of f.judgement ≡ Some K.Lincat →
-      f.whole.name ≡ C → RestsOn es funs e f
-  through : {e f g : FlatJudgement} → RestsOn es funs e f → RestsOn es funs f g → RestsOn es funs e g
+  by_lincat : {e : _} {f : FlatJudgement} {C : _} → Contains es e → Contains es f → NeedsType funs e C →
+      sort_of f.judgement ≡ Some K.Lincat → f.whole.name ≡ C → RestsOn es funs e f
+  through : {e f g : _} → RestsOn es funs e f → RestsOn es funs f g → RestsOn es funs e g
 
 -- those of the judgements that one rests on and that do not rest on it, in the same order
 pub data Before (es funs : List FlatJudgement) (e : FlatJudgement) : List FlatJudgement → List FlatJudgement → Type 0 where
   none : Before es funs e [] []
-  needed : {f : FlatJudgement} {fs ns : List FlatJudgement} → RestsOn es funs e f → ¬ (RestsOn es funs f e) →
-      Before es funs e fs ns →
+  needed : {f fs ns : _} → RestsOn es funs e f → ¬ (RestsOn es funs f e) → Before es funs e fs ns →
       Before es funs e (f ∷ fs) (f ∷ ns)
-  not_needed : {f : FlatJudgement} {fs ns : List FlatJudgement} → ¬ (RestsOn es funs e f × ¬ (RestsOn es funs f e)) →
-      Before es funs e fs ns →
+  not_needed : {f fs ns : _} → ¬ (RestsOn es funs e f × ¬ (RestsOn es funs f e)) → Before es funs e fs ns →
       Before es funs e (f ∷ fs) ns
 
 -- the turns of judgements where some are typed already: at the turn of each come first, in the same way,
 -- those that it rests on and that do not rest on it
 pub data Turns (es funs list : List FlatJudgement) : List FlatJudgement → List FlatJudgement → List FlatJudgement → Type 0 where
-  no_turn : {typed : List FlatJudgement} → Turns es funs list typed [] []
-  typed_already : {typed rest order : List FlatJudgement} {e : FlatJudgement} → Contains typed e →
-      Turns es funs list typed rest order →
+  no_turn : {typed : _} → Turns es funs list typed [] []
+  typed_already : {typed rest order e : _} → Contains typed e → Turns es funs list typed rest order →
       Turns es funs list typed (e ∷ rest) order
-  its_turn : {typed rest first later needed : List FlatJudgement} {e : FlatJudgement} → ¬ (Contains typed e) →
-      Before es funs e list needed →
+  its_turn : {typed rest first later needed e : _} → ¬ (Contains typed e) → Before es funs e list needed →
       Turns es funs list typed needed first → Turns es funs list (typed ++ first ++ e ∷ []) rest later →
       Turns es funs list typed (e ∷ rest) (first ++ e ∷ later)
 
@@ -102,51 +97,47 @@ module _ (mods : List Module) where
   -- what an instance keeps of its interface's judgements, in their order
   pub data Kept (m : Module) : Listing → Listing → Type 0 where
     nothing : Kept m [] []
-    kept : {x : List ℕ} {d : Declared} {j : Judgement} {es ks : Listing} → Writes mods d j → is_undefined j ≡ false →
-        ¬ (OwnName mods m (main_name j x)) → Kept m es ks → Kept m ((x, d) ∷ es) ((x, d) ∷ ks)
-    dropped : {x : List ℕ} {d : Declared} {es ks : Listing} →
+    kept : {x d j es ks : _} → Writes mods d j → is_undefined j ≡ false → ¬ (OwnName mods m (main_name j x)) → Kept m es ks →
+        Kept m ((x, d) ∷ es) ((x, d) ∷ ks)
+    dropped : {x d es ks : _} →
         ¬ ((j : Judgement) × Writes mods d j × (is_undefined j ≡ false) × ¬ (OwnName mods m (main_name j x))) → Kept m es ks →
         Kept m ((x, d) ∷ es) ks
 
   -- what a restriction lets through, in the same order
   pub data LetThrough (h : Inherited) : Listing → Listing → Type 0 where
     no_judgement : LetThrough h [] []
-    let_through : {x : List ℕ} {d : Declared} {j : Judgement} {es ks : Listing} → Writes mods d j →
-        list_any (lets_through h) (names_with j x) ≡ true → LetThrough h es ks → LetThrough h ((x, d) ∷ es) ((x, d) ∷ ks)
-    held_back : {x : List ℕ} {d : Declared} {j : Judgement} {es ks : Listing} → Writes mods d j →
-        list_any (lets_through h) (names_with j x) ≡ false → LetThrough h es ks → LetThrough h ((x, d) ∷ es) ks
+    let_through : {x d j es ks : _} → Writes mods d j → list_any (lets_through h) (names_with j x) ≡ true → LetThrough h es ks →
+        LetThrough h ((x, d) ∷ es) ((x, d) ∷ ks)
+    held_back : {x d j es ks : _} → Writes mods d j → list_any (lets_through h) (names_with j x) ≡ false → LetThrough h es ks →
+        LetThrough h ((x, d) ∷ es) ks
 
   mutual
     -- what a module has, in order: inherited, then copies, then its own; and these three lists
     pub data IsListed : List ℕ → Listing → Listing → Listing → Type 0 where
-      lists : {M : List ℕ} {m : Module} {is cs : Listing} → Is mods M m → Inherits (inherited_of m.rest) is → Copies M m cs →
+      lists : {M : _} {m : Module} {is cs : _} → Is mods M m → Inherits (inherited_of m.rest) is → Copies M m cs →
           IsListed M is cs (own_listing M 0 (judgements_of m))
 
     pub data Inherits : List Inherited → Listing → Type 0 where
       no_module : Inherits [] []
-      from_module : {h : Inherited} {hs : List Inherited} {is cs os ks rest : Listing} →
-          IsListed (inherited_name h) is cs os → LetThrough h (is ++ cs ++ os) ks → Inherits hs rest →
-          Inherits (h ∷ hs) (ks ++ rest)
+      from_module : {h hs is cs os ks rest : _} → IsListed (inherited_name h) is cs os → LetThrough h (is ++ cs ++ os) ks →
+          Inherits hs rest → Inherits (h ∷ hs) (ks ++ rest)
 
     pub data Copies : List ℕ → Module → Listing → Type 0 where
-      of_interface : {M : List ℕ} {m : Module} {n i : PlacedName} {is cs os ks : Listing} → m.header ≡ Instance n i →
-          IsListed i.name is cs os → Kept m (is ++ cs ++ os) ks →
-          Copies M m (copied M ks)
-      of_functor : {M : List ℕ} {m : Module} {hs : List Inherited} {f : Inherited} {ss : List Substitution} {b : Option Body}
-          {is cs os ks : Listing} → m.rest ≡ With hs f ss b →
+      of_interface : {M : _} {m : Module} {n : _} {i : PlacedName} {is cs os ks : _} → m.header ≡ Instance n i →
+          IsListed i.name is cs os → Kept m (is ++ cs ++ os) ks → Copies M m (copied M ks)
+      of_functor : {M : _} {m : Module} {hs f ss b is cs os ks : _} → m.rest ≡ With hs f ss b →
           IsListed (inherited_name f) is cs os → LetThrough f (is ++ cs ++ os) ks → Copies M m (copied M ks)
-      no_copies : {M : List ℕ} {m : Module} → ((n i : PlacedName) → ¬ (m.header ≡ Instance n i)) →
-          ((hs : List Inherited) (f : Inherited) (ss : List Substitution) (b : Option Body) →
-          ¬ (m.rest ≡ With hs f ss b)) → Copies M m []
+      no_copies : {M : _} {m : Module} → ((n i : PlacedName) → ¬ (m.header ≡ Instance n i)) →
+          ((hs : List Inherited) (f : Inherited) (ss : List Substitution) (b : Option Body) → ¬ (m.rest ≡ With hs f ss b)) →
+          Copies M m []
 
   -- the judgements of interfaces and incomplete modules, which are typed where a judgement rests on them
   pub data AreMet : List Module → Listing → Type 0 where
     no_other : AreMet [] []
-    typed_there : {m : Module} {ms : List Module} {ls : Listing} → (is_interface m.header || is_incomplete m.header) ≡ false →
-        AreMet ms ls → AreMet (m ∷ ms) ls
-    met_elsewhere : {m : Module} {ms : List Module} {is cs os ls : Listing} →
-        (is_interface m.header || is_incomplete m.header) ≡ true → IsListed (header_name m.header).name is cs os →
-        AreMet ms ls → AreMet (m ∷ ms) (cs ++ os ++ ls)
+    typed_there : {m : Module} {ms ls : _} → (is_interface m.header || is_incomplete m.header) ≡ false → AreMet ms ls →
+        AreMet (m ∷ ms) ls
+    met_elsewhere : {m : Module} {ms is cs os ls : _} → (is_interface m.header || is_incomplete m.header) ≡ true →
+        IsListed (header_name m.header).name is cs os → AreMet ms ls → AreMet (m ∷ ms) (cs ++ os ++ ls)
 
   -- a linearization whose name the abstract module lacks is ignored
   abbrev pub Ignored : Option (List ℕ) → List ℕ → Declared → Type 0
@@ -157,12 +148,9 @@ module _ (mods : List Module) where
   -- the judgements of a listing with their names replaced
   pub data AreEntries (abstract : Option (List ℕ)) : Listing → List FlatJudgement → Type 0 where
     no_entry : AreEntries abstract [] []
-    ignored : {x : List ℕ} {d : Declared} {ls : Listing} {es : List FlatJudgement} → Ignored abstract x d →
-        AreEntries abstract ls es →
-        AreEntries abstract ((x, d) ∷ ls) es
-    one_entry : {x : List ℕ} {d : Declared} {e : FlatJudgement} {ls : Listing} {es : List FlatJudgement} →
-        ¬ (Ignored abstract x d) →
-        IsEntry mods x d e → AreEntries abstract ls es → AreEntries abstract ((x, d) ∷ ls) (e ∷ es)
+    ignored : {x d ls es : _} → Ignored abstract x d → AreEntries abstract ls es → AreEntries abstract ((x, d) ∷ ls) es
+    one_entry : {x d e ls es : _} → ¬ (Ignored abstract x d) → IsEntry mods x d e → AreEntries abstract ls es →
+        AreEntries abstract ((x, d) ∷ ls) (e ∷ es)
 
 -- inherited linearizations are typed again: lincats, lindefs, linrefs, then lins
 abbrev pub is_of : Keyword → Option Keyword → Bool

@@ -82,53 +82,42 @@ module _ (flat : Flat) where
   pub data HasLinType (lang : List ℕ) : List ℕ → CType → Type 0 where
     of_int : HasLinType lang (codes "Int") literal_type
     of_string : HasLinType lang (codes "String") literal_type
-    of_category : {w : Whole} {e : Term} {T : CType} →
-        Contains items (lincat lang w e) → IsType items e T → IsData T → HasLinType lang w.name T
+    of_category : {w : Whole} {e T : _} → Contains items (lincat lang w e) → IsType items e T → IsData T →
+        HasLinType lang w.name T
 
   -- those of several categories
   pub data HaveLinTypes (lang : List ℕ) : List (List ℕ) → List CType → Type 0 where
     no_more : HaveLinTypes lang [] []
-    more : {C : List ℕ} {Cs : List (List ℕ)} {T : CType} {Ts : List CType} →
-        HasLinType lang C T → HaveLinTypes lang Cs Ts → HaveLinTypes lang (C ∷ Cs) (T ∷ Ts)
+    more : {C Cs T Ts : _} → HasLinType lang C T → HaveLinTypes lang Cs Ts → HaveLinTypes lang (C ∷ Cs) (T ∷ Ts)
 
   -- what is written before the word overload, where something is, is a type
   pub data IsWritten : Option Term → Type 0 where
     nothing_written : IsWritten None
-    type_written : {e : Term} {T : CType} → IsType items e T → IsWritten (Some e)
+    type_written : {e T : _} → IsType items e T → IsWritten (Some e)
 
   -- the judgement means the typed term, which has the type; one that names a type means the empty
   -- record and has that type; an oper without definition has no outcome, and a parameter type without
   -- constructors no value
   pub data HasTyping : Item → LinTerm → CType → Type 0 where
-    parameter : {w : Whole} {cs : List Constructor} {T : CType} → IsParameter items w T →
-        HasTyping (parameter_type w cs) no_value T
-    undefined_parameter : {w : Whole} →
-        HasTyping (bare_parameter w) no_value (roll-CType (CType-F.Param w []))
-    named_type : {w : Whole} {D d : Term} {S T : CType} {t : LinTerm} → IsType items D S → IsSort S →
-        Checks items [] d S t → IsType items d T → NoCycle items w →
+    parameter : {w cs T : _} → IsParameter items w T → HasTyping (parameter_type w cs) no_value T
+    undefined_parameter : {w : _} → HasTyping (bare_parameter w) no_value (roll-CType (CType-F.Param w []))
+    named_type : {w D d S T t : _} → IsType items D S → IsSort S → Checks items [] d S t → IsType items d T → NoCycle items w →
         HasTyping (oper w (Some D) (Some d)) no_value T
-    typed_oper : {w : Whole} {D d : Term} {T : CType} {t : LinTerm} → IsType items D T → ¬ (IsSort T) →
-        Checks items [] d T t → NoCycle items w → HasTyping (oper w (Some D) (Some d)) t T
-    undefined_oper : {w : Whole} {D : Term} {T : CType} → IsType items D T →
-        HasTyping (oper w (Some D) None) (made (Lin-F.Variants [])) T
-    found_type : {w : Whole} {d : Term} {S T : CType} {t : LinTerm} → Finds items [] d S t → IsSort S →
-        IsType items d T → NoCycle items w → HasTyping (oper w None (Some d)) no_value T
-    found_oper : {w : Whole} {d : Term} {T : CType} {t : LinTerm} → Finds items [] d T t → ¬ (IsSort T) →
-        NoCycle items w → HasTyping (oper w None (Some d)) t T
-    of_overload : {w : Whole} {e : Option Term} {D d : Term} {T : CType} {t : LinTerm} → IsWritten e →
-        IsType items D T → Checks items [] d T t → NoCycle items w →
+    typed_oper : {w D d T t : _} → IsType items D T → ¬ (IsSort T) → Checks items [] d T t → NoCycle items w →
+        HasTyping (oper w (Some D) (Some d)) t T
+    undefined_oper : {w D T : _} → IsType items D T → HasTyping (oper w (Some D) None) (made (Lin-F.Variants [])) T
+    found_type : {w d S T t : _} → Finds items [] d S t → IsSort S → IsType items d T → NoCycle items w →
+        HasTyping (oper w None (Some d)) no_value T
+    found_oper : {w d T t : _} → Finds items [] d T t → ¬ (IsSort T) → NoCycle items w → HasTyping (oper w None (Some d)) t T
+    of_overload : {w e D d T t : _} → IsWritten e → IsType items D T → Checks items [] d T t → NoCycle items w →
         HasTyping (alternative w e [] D d) t T
-    linearization_type : {lang : List ℕ} {w : Whole} {e : Term} {T : CType} → IsType items e T → IsData T →
-        HasTyping (lincat lang w e) no_value T
-    linearization : {lang : List ℕ} {w : Whole} {e : Term} {s : Signature} {Ts : List CType} {T : CType} {t : LinTerm} →
-        signature_in flat.funs w.name ≡ Some s → HaveLinTypes lang s.arguments Ts →
-        HasLinType lang s.result T → Checks items [] e (functions Ts T) t →
+    linearization_type : {lang w e T : _} → IsType items e T → IsData T → HasTyping (lincat lang w e) no_value T
+    linearization : {lang : _} {w : Whole} {e : _} {s : Signature} {Ts T t : _} → signature_in flat.funs w.name ≡ Some s →
+        HaveLinTypes lang s.arguments Ts → HasLinType lang s.result T → Checks items [] e (functions Ts T) t →
         HasTyping (lin lang w e) t (functions Ts T)
-    of_lindef : {lang : List ℕ} {w : Whole} {e : Term} {T : CType} {t : LinTerm} →
-        HasLinType lang w.name T → Checks items [] e (function_type str_type T) t →
+    of_lindef : {lang : _} {w : Whole} {e T t : _} → HasLinType lang w.name T → Checks items [] e (function_type str_type T) t →
         HasTyping (lindef lang w e) t (function_type str_type T)
-    of_linref : {lang : List ℕ} {w : Whole} {e : Term} {T : CType} {t : LinTerm} →
-        HasLinType lang w.name T → Checks items [] e (function_type T str_type) t →
+    of_linref : {lang : _} {w : Whole} {e T t : _} → HasLinType lang w.name T → Checks items [] e (function_type T str_type) t →
         HasTyping (linref lang w e) t (function_type T str_type)
 
   -- what typing gives for the judgement of that number

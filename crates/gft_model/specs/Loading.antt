@@ -78,21 +78,20 @@ IsLoaded s M = (m : Module) × (module_named s.modules M ≡ Some m)
 module _ (files : Files) where
   -- the file is read as a module of that name, where it is the next to be loaded and nothing is broken in its slices
   pub data Reads (s : Loading) (file M : List ℕ) : Module → Type 0 where
-    reads : {bytes : List ℕ} {ts : List SourceToken} {m : Module} → get files file ≡ Some bytes → length bytes ≤ most_bytes →
+    reads : {bytes ts : _} {m : Module} → get files file ≡ Some bytes → length bytes ≤ most_bytes →
         Tokens (length s.files) bytes ts → IsAccepted (BreaksSyntax (length s.files) ts) → SpellsModule ts m →
         (header_name m.header).name ≡ M → Reads s file M m
 
   -- why it is not
   pub data Fails (s : Loading) (file M : List ℕ) : Refusal → Type 0 where
     missing : get files file ≡ None → Fails s file M (placeless R.MissingFile (file ∷ []))
-    too_long : {bytes : List ℕ} → get files file ≡ Some bytes → most_bytes < length bytes →
+    too_long : {bytes : _} → get files file ≡ Some bytes → most_bytes < length bytes →
         Fails s file M (placeless R.FileTooLong (file ∷ []))
-    bad_characters : {bytes : List ℕ} {r : Refusal} → get files file ≡ Some bytes → length bytes ≤ most_bytes →
+    bad_characters : {bytes r : _} → get files file ≡ Some bytes → length bytes ≤ most_bytes →
         IsFirst (ByPlace (BreaksTokens (length s.files) bytes)) r → Fails s file M r
-    bad_slices : {bytes : List ℕ} {ts : List SourceToken} {r : Refusal} → get files file ≡ Some bytes →
-        length bytes ≤ most_bytes →
-        Tokens (length s.files) bytes ts → IsFirst (BreaksSyntax (length s.files) ts) r → Fails s file M r
-    misnamed : {bytes : List ℕ} {ts : List SourceToken} {m : Module} → get files file ≡ Some bytes → length bytes ≤ most_bytes →
+    bad_slices : {bytes ts r : _} → get files file ≡ Some bytes → length bytes ≤ most_bytes → Tokens (length s.files) bytes ts →
+        IsFirst (BreaksSyntax (length s.files) ts) r → Fails s file M r
+    misnamed : {bytes ts : _} {m : Module} → get files file ≡ Some bytes → length bytes ≤ most_bytes →
         Tokens (length s.files) bytes ts → IsAccepted (BreaksSyntax (length s.files) ts) → SpellsModule ts m →
         (header_name m.header).name ≢ M →
         Fails s file M (refusal R.NameMismatch (header_name m.header).place ((header_name m.header).name ∷ []))
@@ -100,69 +99,55 @@ module _ (files : Files) where
   mutual
     -- a module is loaded from a folder, where others wait for it
     pub data Loads (folder : List ℕ) : List (List ℕ) → Loading → List ℕ → Outcome → Type 0 where
-      fails : {M : List ℕ} {waiting : List (List ℕ)} {s : Loading} {r : Refusal} → Fails s (file_in folder M) M r →
+      fails : {M waiting s r : _} → Fails s (file_in folder M) M r →
           Loads folder waiting s M (refused r (with_file s (file_in folder M)))
-      needs_refused : {M : List ℕ} {waiting : List (List ℕ)} {s t : Loading} {m : Module} {r : Refusal} →
-          Reads s (file_in folder M) M m →
+      needs_refused : {M waiting s t m r : _} → Reads s (file_in folder M) M m →
           LoadsAll folder (M ∷ waiting) (with_file s (file_in folder M)) (mentions m) (refused r t) →
           Loads folder waiting s M (refused r t)
-      complete : {M : List ℕ} {waiting : List (List ℕ)} {s t : Loading} {m : Module} → Reads s (file_in folder M) M m →
+      complete : {M waiting s t m : _} → Reads s (file_in folder M) M m →
           LoadsAll folder (M ∷ waiting) (with_file s (file_in folder M)) (mentions m) (loaded t) →
           Loads folder waiting s M (loaded (with_module t m))
 
     -- the modules that a header names, in their order, each once
     pub data LoadsAll (folder : List ℕ) : List (List ℕ) → Loading → List PlacedName → Outcome → Type 0 where
-      no_more : {waiting : List (List ℕ)} {s : Loading} → LoadsAll folder waiting s [] (loaded s)
-      loaded_before : {waiting : List (List ℕ)} {s : Loading} {n : PlacedName} {ns : List PlacedName} {o : Outcome} →
-          IsLoaded s n.name → LoadsAll folder waiting s ns o → LoadsAll folder waiting s (n ∷ ns) o
-      waits_for_it : {waiting : List (List ℕ)} {s : Loading} {n : PlacedName} {ns : List PlacedName} → Contains waiting n.name →
+      no_more : {waiting s : _} → LoadsAll folder waiting s [] (loaded s)
+      loaded_before : {waiting s : _} {n : PlacedName} {ns o : _} → IsLoaded s n.name → LoadsAll folder waiting s ns o →
+          LoadsAll folder waiting s (n ∷ ns) o
+      waits_for_it : {waiting s : _} {n : PlacedName} {ns : _} → Contains waiting n.name →
           LoadsAll folder waiting s (n ∷ ns) (refused (refusal R.ModuleCycle n.place (n.name ∷ [])) s)
-      too_many : {waiting : List (List ℕ)} {s : Loading} {n : PlacedName} {ns : List PlacedName} → ¬ (IsLoaded s n.name) →
-          ¬ (Contains waiting n.name) → HasNoRoom s →
+      too_many : {waiting s : _} {n : PlacedName} {ns : _} → ¬ (IsLoaded s n.name) → ¬ (Contains waiting n.name) → HasNoRoom s →
           LoadsAll folder waiting s (n ∷ ns) (refused (placeless R.TooManyModules []) s)
-      next_refused : {waiting : List (List ℕ)} {s t : Loading} {n : PlacedName} {ns : List PlacedName} {r : Refusal} →
-          ¬ (IsLoaded s n.name) →
-          ¬ (Contains waiting n.name) → ¬ (HasNoRoom s) → Loads folder waiting s n.name (refused r t) →
-          LoadsAll folder waiting s (n ∷ ns) (refused r t)
-      next_loaded : {waiting : List (List ℕ)} {s t : Loading} {n : PlacedName} {ns : List PlacedName} {o : Outcome} →
-          ¬ (IsLoaded s n.name) →
-          ¬ (Contains waiting n.name) → ¬ (HasNoRoom s) → Loads folder waiting s n.name (loaded t) →
-          LoadsAll folder waiting t ns o →
+      next_refused : {waiting s t : _} {n : PlacedName} {ns r : _} → ¬ (IsLoaded s n.name) → ¬ (Contains waiting n.name) →
+          ¬ (HasNoRoom s) → Loads folder waiting s n.name (refused r t) → LoadsAll folder waiting s (n ∷ ns) (refused r t)
+      next_loaded : {waiting s t : _} {n : PlacedName} {ns o : _} → ¬ (IsLoaded s n.name) → ¬ (Contains waiting n.name) →
+          ¬ (HasNoRoom s) → Loads folder waiting s n.name (loaded t) → LoadsAll folder waiting t ns o →
           LoadsAll folder waiting s (n ∷ ns) o
 
   -- why a portable file is refused
   pub data FailsPortable (file : List ℕ) : Refusal → Type 0 where
     no_file : get files file ≡ None → FailsPortable file (placeless R.MissingFile (file ∷ []))
-    long_file : {bytes : List ℕ} → get files file ≡ Some bytes → most_portable_bytes < length bytes →
+    long_file : {bytes : _} → get files file ≡ Some bytes → most_portable_bytes < length bytes →
         FailsPortable file (placeless R.FileTooLong (file ∷ []))
-    at_field : {bytes : List ℕ} {rule : Rule} {offset : ℕ} → get files file ≡ Some bytes → length bytes ≤ most_portable_bytes →
+    at_field : {bytes rule offset : _} → get files file ≡ Some bytes → length bytes ≤ most_portable_bytes →
         HasFault bytes rule offset → FailsPortable file (placeless rule (file ∷ decimal offset ∷ []))
-    is_invalid : {bytes : List ℕ} {flaw : Flaw} {offset : ℕ} → get files file ≡ Some bytes → length bytes ≤ most_portable_bytes →
+    is_invalid : {bytes flaw offset : _} → get files file ≡ Some bytes → length bytes ≤ most_portable_bytes →
         IsInvalid bytes flaw offset → FailsPortable file (placeless R.Invalid (file ∷ decimal offset ∷ flaw_text flaw ∷ []))
 
   -- the named files, in order: each source's module once, and each portable file
   pub data LoadsNamed : Loading → List (List ℕ) → Outcome → Type 0 where
-    none_named : {s : Loading} → LoadsNamed s [] (loaded s)
-    known : {s : Loading} {file : List ℕ} {rest : List (List ℕ)} {o : Outcome} → EndsIn source_ending file →
-        IsLoaded s (base_of file) →
-        LoadsNamed s rest o → LoadsNamed s (file ∷ rest) o
-    no_room : {s : Loading} {file : List ℕ} {rest : List (List ℕ)} → EndsIn source_ending file →
-        ¬ (IsLoaded s (base_of file)) → HasNoRoom s →
+    none_named : {s : _} → LoadsNamed s [] (loaded s)
+    known : {s file rest o : _} → EndsIn source_ending file → IsLoaded s (base_of file) → LoadsNamed s rest o →
+        LoadsNamed s (file ∷ rest) o
+    no_room : {s file rest : _} → EndsIn source_ending file → ¬ (IsLoaded s (base_of file)) → HasNoRoom s →
         LoadsNamed s (file ∷ rest) (refused (placeless R.TooManyModules []) s)
-    named_refused : {s t : Loading} {file : List ℕ} {rest : List (List ℕ)} {r : Refusal} → EndsIn source_ending file →
-        ¬ (IsLoaded s (base_of file)) →
-        ¬ (HasNoRoom s) → Loads (folder_of file) [] s (base_of file) (refused r t) → LoadsNamed s (file ∷ rest) (refused r t)
-    named_loaded : {s t : Loading} {file : List ℕ} {rest : List (List ℕ)} {o : Outcome} → EndsIn source_ending file →
-        ¬ (IsLoaded s (base_of file)) →
-        ¬ (HasNoRoom s) → Loads (folder_of file) [] s (base_of file) (loaded t) → LoadsNamed t rest o →
-        LoadsNamed s (file ∷ rest) o
-    portable_refused : {s : Loading} {file : List ℕ} {rest : List (List ℕ)} {r : Refusal} → EndsIn portable_ending file →
-        FailsPortable file r →
+    named_refused : {s t file rest r : _} → EndsIn source_ending file → ¬ (IsLoaded s (base_of file)) → ¬ (HasNoRoom s) →
+        Loads (folder_of file) [] s (base_of file) (refused r t) → LoadsNamed s (file ∷ rest) (refused r t)
+    named_loaded : {s t file rest o : _} → EndsIn source_ending file → ¬ (IsLoaded s (base_of file)) → ¬ (HasNoRoom s) →
+        Loads (folder_of file) [] s (base_of file) (loaded t) → LoadsNamed t rest o → LoadsNamed s (file ∷ rest) o
+    portable_refused : {s file rest r : _} → EndsIn portable_ending file → FailsPortable file r →
         LoadsNamed s (file ∷ rest) (refused r s)
-    portable_read : {s : Loading} {file bytes : List ℕ} {g : Grammar} {rest : List (List ℕ)} {o : Outcome} →
-        EndsIn portable_ending file →
-        get files file ≡ Some bytes → length bytes ≤ most_portable_bytes → PortableFile.Reads bytes g → LoadsNamed s rest o →
-        LoadsNamed s (file ∷ rest) o
+    portable_read : {s file bytes g rest o : _} → EndsIn portable_ending file → get files file ≡ Some bytes →
+        length bytes ≤ most_portable_bytes → PortableFile.Reads bytes g → LoadsNamed s rest o → LoadsNamed s (file ∷ rest) o
 
 -- before the first file
 abbrev pub nothing_loaded : Loading
@@ -171,4 +156,4 @@ nothing_loaded = record { files = []; modules = [] }
 -- the names of the loaded files by their numbers, as a refusal's place counts them
 pub data HasFiles (files : Files) (names : List (List ℕ)) : List (List ℕ) → Type 0 where
   after_all : {s : Loading} → LoadsNamed files nothing_loaded names (loaded s) → HasFiles files names s.files
-  after_refusal : {s : Loading} {r : Refusal} → LoadsNamed files nothing_loaded names (refused r s) → HasFiles files names s.files
+  after_refusal : {s : Loading} {r : _} → LoadsNamed files nothing_loaded names (refused r s) → HasFiles files names s.files

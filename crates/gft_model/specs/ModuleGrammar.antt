@@ -100,16 +100,15 @@ slices_of ts = slices_from [] [] ts
 
 -- a definition, to the end of the slice
 pub data SpellsDefinition : Tokens → Definition → Type 0 where
-  by_term : {ts : Tokens} {e : Term} → Spells (term exp) ts e [] → SpellsDefinition ts (D.Term e)
-  by_overload : {ts : Tokens} {o l r : SourceToken} {ds : List Alternative} →
-      IsReserved W.Overload o → Is S.LeftBrace l → Spells (semicolons alternative) ts ds (r ∷ []) →
+  by_term : {ts e : _} → Spells (term exp) ts e [] → SpellsDefinition ts (D.Term e)
+  by_overload : {ts o l r ds : _} → IsReserved W.Overload o → Is S.LeftBrace l → Spells (semicolons alternative) ts ds (r ∷ []) →
       Is S.RightBrace r → SpellsDefinition (o ∷ l ∷ ts) (D.Overload ds)
 
 -- the value of a flag, to the end of the slice
 pub data SpellsSetting : SourceToken → Setting → Type 0 where
-  to_name : {x : List ℕ} {t : SourceToken} → IsNamed x t → SpellsSetting t (V.Name x)
-  to_number : {n : ℕ} {t : SourceToken} → IsNumber n t → SpellsSetting t (V.Number n)
-  to_text : {x : List ℕ} {t : SourceToken} → IsQuoted x t → SpellsSetting t (V.Text x)
+  to_name : {x t : _} → IsNamed x t → SpellsSetting t (V.Name x)
+  to_number : {n t : _} → IsNumber n t → SpellsSetting t (V.Number n)
+  to_text : {x t : _} → IsQuoted x t → SpellsSetting t (V.Text x)
 
 -- the greatest number of elements that a list category may ask for
 abbrev pub most_elements : ℕ
@@ -123,42 +122,30 @@ pub data Linearization : Keyword → (List PlacedName → List Bind → Term →
 
 -- the tokens after a keyword are the judgement
 pub data SpellsJudgement : Keyword → Tokens → Judgement → Type 0 where
-  category : {x : List ℕ} {t : SourceToken} {ts : Tokens} {cs : List Context} → IsNamed x t →
-      Spells (many context) ts cs [] → SpellsJudgement K.Cat (t ∷ ts) (J.Cat (placed x t) cs)
-  list_category : {x : List ℕ} {l t r : SourceToken} → Is S.LeftBracket l → IsNamed x t →
-      Is S.RightBracket r →
+  category : {x t ts cs : _} → IsNamed x t → Spells (many context) ts cs [] →
+      SpellsJudgement K.Cat (t ∷ ts) (J.Cat (placed x t) cs)
+  list_category : {x : _} {l : SourceToken} {t r : _} → Is S.LeftBracket l → IsNamed x t → Is S.RightBracket r →
       SpellsJudgement K.Cat (l ∷ t ∷ r ∷ []) (J.ListCat (placed x t) (Written x) 0 l.place)
-  list_category_of : {x : List ℕ} {k : ℕ} {l t r b n c : SourceToken} → Is S.LeftBracket l →
-      IsNamed x t → Is S.RightBracket r → Is S.LeftBrace b → IsNumber k n → k ≤ most_elements →
-      Is S.RightBrace c →
+  list_category_of : {x k : _} {l : SourceToken} {t r b n c : _} → Is S.LeftBracket l → IsNamed x t → Is S.RightBracket r →
+      Is S.LeftBrace b → IsNumber k n → k ≤ most_elements → Is S.RightBrace c →
       SpellsJudgement K.Cat (l ∷ t ∷ r ∷ b ∷ n ∷ c ∷ []) (J.ListCat (placed x t) (Written x) k l.place)
-  function : {ts us : Tokens} {c : SourceToken} {ns : List PlacedName} {a : Term} →
-      Spells (listed S.Comma placed_name) ts ns (c ∷ us) → Is S.Colon c → Spells (term exp) us a [] →
+  function : {ts us c ns a : _} → Spells (listed S.Comma placed_name) ts ns (c ∷ us) → Is S.Colon c → Spells (term exp) us a [] →
       SpellsJudgement K.Fun ts (J.Fun ns a)
-  flag : {x : List ℕ} {t e u : SourceToken} {v : Setting} → IsNamed x t → Is S.Equals e →
-      SpellsSetting u v → SpellsJudgement K.Flags (t ∷ e ∷ u ∷ []) (J.Flag (placed x t) v)
-  lincat : {ts us : Tokens} {e : SourceToken} {ns : List PlacedName} {a : Term} →
-      Spells (listed S.Comma category_name) ts ns (e ∷ us) → Is S.Equals e → Spells (term exp) us a [] →
+  flag : {x t e u v : _} → IsNamed x t → Is S.Equals e → SpellsSetting u v →
+      SpellsJudgement K.Flags (t ∷ e ∷ u ∷ []) (J.Flag (placed x t) v)
+  lincat : {ts us e ns a : _} → Spells (listed S.Comma category_name) ts ns (e ∷ us) → Is S.Equals e → Spells (term exp) us a [] →
       SpellsJudgement K.Lincat ts (J.Lincat ns a)
-  linearization : {ts us vs : Tokens} {e : SourceToken} {ns : List PlacedName} {bs : List Bind}
-      {a : Term} {k : Keyword} {form : List PlacedName →
-      List Bind → Term → Judgement} → Linearization k form → Spells (listed S.Comma category_name) ts ns us →
-      Spells (many bind) us bs (e ∷ vs) → Is S.Equals e → Spells (term exp) vs a [] →
-      SpellsJudgement k ts (form ns bs a)
-  bare_parameter : {x : List ℕ} {t : SourceToken} → IsNamed x t →
-      SpellsJudgement K.Param (t ∷ []) (J.ParamName (placed x t))
-  parameter_type : {x : List ℕ} {t e : SourceToken} {ts : Tokens} {cs : List Constructor} →
-      IsNamed x t → Is S.Equals e → Spells (listed S.Bar constructor) ts cs [] →
+  linearization : {ts us vs e ns bs a k form : _} → Linearization k form → Spells (listed S.Comma category_name) ts ns us →
+      Spells (many bind) us bs (e ∷ vs) → Is S.Equals e → Spells (term exp) vs a [] → SpellsJudgement k ts (form ns bs a)
+  bare_parameter : {x t : _} → IsNamed x t → SpellsJudgement K.Param (t ∷ []) (J.ParamName (placed x t))
+  parameter_type : {x t e ts cs : _} → IsNamed x t → Is S.Equals e → Spells (listed S.Bar constructor) ts cs [] →
       SpellsJudgement K.Param (t ∷ e ∷ ts) (J.Param (placed x t) cs)
-  declared_oper : {ts us : Tokens} {c : SourceToken} {ns : List PlacedName} {a : Term} →
-      Spells (listed S.Comma placed_name) ts ns (c ∷ us) → Is S.Colon c → Spells (term exp) us a [] →
-      SpellsJudgement K.Oper ts (J.OperType ns a)
-  typed_oper : {ts us vs : Tokens} {c e : SourceToken} {ns : List PlacedName} {a : Term} {d : Definition} →
-      Spells (listed S.Comma placed_name) ts ns (c ∷ us) → Is S.Colon c → Spells (term exp) us a (e ∷ vs) → Is S.Equals e →
-      SpellsDefinition vs d → SpellsJudgement K.Oper ts (J.OperTyped ns a d)
-  oper : {ts us vs : Tokens} {e : SourceToken} {ns : List PlacedName} {bs : List Bind} {d : Definition} →
-      Spells (listed S.Comma placed_name) ts ns us → Spells (many bind) us bs (e ∷ vs) → Is S.Equals e →
-      SpellsDefinition vs d → SpellsJudgement K.Oper ts (J.Oper ns bs d)
+  declared_oper : {ts us c ns a : _} → Spells (listed S.Comma placed_name) ts ns (c ∷ us) → Is S.Colon c →
+      Spells (term exp) us a [] → SpellsJudgement K.Oper ts (J.OperType ns a)
+  typed_oper : {ts us vs c e ns a d : _} → Spells (listed S.Comma placed_name) ts ns (c ∷ us) → Is S.Colon c →
+      Spells (term exp) us a (e ∷ vs) → Is S.Equals e → SpellsDefinition vs d → SpellsJudgement K.Oper ts (J.OperTyped ns a d)
+  oper : {ts us vs e ns bs d : _} → Spells (listed S.Comma placed_name) ts ns us → Spells (many bind) us bs (e ∷ vs) →
+      Is S.Equals e → SpellsDefinition vs d → SpellsJudgement K.Oper ts (J.Oper ns bs d)
 
 -- the keyword of a reserved word
 abbrev pub keyword_word : Keyword → Word
@@ -174,29 +161,23 @@ keyword_word K.Oper = W.Oper
 
 -- a slice that is not empty: it begins with a keyword or goes on with that of the slice before
 pub data SpellsSlice : Option Keyword → Tokens → Keyword → Judgement → Type 0 where
-  with_keyword : {before : Option Keyword} {k : Keyword} {t : SourceToken} {ts : Tokens} {j : Judgement} →
-      IsReserved (keyword_word k) t → SpellsJudgement k ts j → SpellsSlice before (t ∷ ts) k j
-  goes_on : {k : Keyword} {t : SourceToken} {ts : Tokens} {j : Judgement} →
-      SpellsJudgement k (t ∷ ts) j → SpellsSlice (Some k) (t ∷ ts) k j
+  with_keyword : {before k t ts j : _} → IsReserved (keyword_word k) t → SpellsJudgement k ts j →
+      SpellsSlice before (t ∷ ts) k j
+  goes_on : {k t ts j : _} → SpellsJudgement k (t ∷ ts) j → SpellsSlice (Some k) (t ∷ ts) k j
 
 -- the slices of a body; an empty one says nothing
 pub data SpellsSlices : Option Keyword → List Tokens → List Judgement → Type 0 where
-  no_slice : {before : Option Keyword} → SpellsSlices before [] []
-  empty_slice : {before : Option Keyword} {ss : List Tokens} {js : List Judgement} →
-      SpellsSlices before ss js → SpellsSlices before ([] ∷ ss) js
-  slice : {before : Option Keyword} {k : Keyword} {t : SourceToken} {ts : Tokens} {ss : List Tokens}
-      {j : Judgement} {js : List Judgement} →
-      SpellsSlice before (t ∷ ts) k j → SpellsSlices (Some k) ss js →
+  no_slice : {before : _} → SpellsSlices before [] []
+  empty_slice : {before ss js : _} → SpellsSlices before ss js → SpellsSlices before ([] ∷ ss) js
+  slice : {before k t ts ss j js : _} → SpellsSlice before (t ∷ ts) k j → SpellsSlices (Some k) ss js →
       SpellsSlices before ((t ∷ ts) ∷ ss) (j ∷ js)
 
 -- a body: what it opens, and its slices in braces
 pub data SpellsBody : Tokens → Body → Tokens → Type 0 where
-  closed_body : {ts rest : Tokens} {l : SourceToken} {ss : List Tokens} {js : List Judgement} →
-      Is S.LeftBrace l → slices_of ts ≡ Some (ss, rest) → SpellsSlices None ss js →
+  closed_body : {ts rest l ss js : _} → Is S.LeftBrace l → slices_of ts ≡ Some (ss, rest) → SpellsSlices None ss js →
       SpellsBody (l ∷ ts) (record { opened = []; judgements = js }) rest
-  opening_body : {ts us rest : Tokens} {o i l : SourceToken} {os : List Opened} {ss : List Tokens} {js : List Judgement} →
-      IsReserved W.OpenWord o → Spells (listed S.Comma opened) ts os (i ∷ l ∷ us) → IsReserved W.InWord i →
-      Is S.LeftBrace l → slices_of us ≡ Some (ss, rest) → SpellsSlices None ss js →
+  opening_body : {ts us rest o i l os ss js : _} → IsReserved W.OpenWord o → Spells (listed S.Comma opened) ts os (i ∷ l ∷ us) →
+      IsReserved W.InWord i → Is S.LeftBrace l → slices_of us ≡ Some (ss, rest) → SpellsSlices None ss js →
       SpellsBody (o ∷ ts) (record { opened = os; judgements = js }) rest
 
 -- the kinds of modules that name no other
@@ -212,43 +193,35 @@ pub data KindOf : Word → (PlacedName → PlacedName → Header) → Type 0 whe
 
 -- the kind and the name of a module
 pub data SpellsHeader : Tokens → Header → Tokens → Type 0 where
-  plain_module : {x : List ℕ} {k t : SourceToken} {ts : Tokens} {w : Word} {form : PlacedName → Header} →
-      PlainKind w form → IsReserved w k → IsNamed x t → SpellsHeader (k ∷ t ∷ ts) (form (placed x t)) ts
-  module_of : {x y : List ℕ} {k t o u : SourceToken} {ts : Tokens} {w : Word} {form : PlacedName → PlacedName → Header} →
-      KindOf w form → IsReserved w k → IsNamed x t → IsReserved W.Of o → IsNamed y u →
+  plain_module : {x k t ts w form : _} → PlainKind w form → IsReserved w k → IsNamed x t →
+      SpellsHeader (k ∷ t ∷ ts) (form (placed x t)) ts
+  module_of : {x y k t o u ts w form : _} → KindOf w form → IsReserved w k → IsNamed x t → IsReserved W.Of o → IsNamed y u →
       SpellsHeader (k ∷ t ∷ o ∷ u ∷ ts) (form (placed x t) (placed y u)) ts
-  incomplete_module : {x y : List ℕ} {i k t o u : SourceToken} {ts : Tokens} → IsReserved W.Incomplete i →
-      IsReserved W.Concrete k → IsNamed x t → IsReserved W.Of o → IsNamed y u →
-      SpellsHeader (i ∷ k ∷ t ∷ o ∷ u ∷ ts) (H.Incomplete (placed x t) (placed y u)) ts
+  incomplete_module : {x y i k t o u ts : _} → IsReserved W.Incomplete i → IsReserved W.Concrete k → IsNamed x t →
+      IsReserved W.Of o → IsNamed y u → SpellsHeader (i ∷ k ∷ t ∷ o ∷ u ∷ ts) (H.Incomplete (placed x t) (placed y u)) ts
 
 -- what is inherited, with ** after it, or nothing
 pub data SpellsBefore : Tokens → List Inherited → Tokens → Type 0 where
-  nothing_before : {ts : Tokens} → SpellsBefore ts [] ts
-  inherited_before : {ts rest : Tokens} {s : SourceToken} {hs : List Inherited} →
-      Spells (listed S.Comma inherited) ts hs (s ∷ rest) → Is S.DoubleStar s → SpellsBefore ts hs rest
+  nothing_before : {ts : _} → SpellsBefore ts [] ts
+  inherited_before : {ts rest s hs : _} → Spells (listed S.Comma inherited) ts hs (s ∷ rest) → Is S.DoubleStar s →
+      SpellsBefore ts hs rest
 
 -- what follows the = of a module
 pub data SpellsRest : Tokens → Rest → Tokens → Type 0 where
-  own_body : {ts us rest : Tokens} {hs : List Inherited} {b : Body} → SpellsBefore ts hs us →
-      SpellsBody us b rest → SpellsRest ts (Own hs b) rest
-  inherited_alone : {ts rest : Tokens} {hs : List Inherited} → Spells (listed S.Comma inherited) ts hs rest →
-      SpellsRest ts (Inherits hs) rest
-  functor : {ts us vs rest : Tokens} {w : SourceToken} {hs : List Inherited} {f : Inherited} {ss : List Substitution} →
-      SpellsBefore ts hs us → Spells inherited us f (w ∷ vs) → IsReserved W.With w →
+  own_body : {ts us rest hs b : _} → SpellsBefore ts hs us → SpellsBody us b rest → SpellsRest ts (Own hs b) rest
+  inherited_alone : {ts rest hs : _} → Spells (listed S.Comma inherited) ts hs rest → SpellsRest ts (Inherits hs) rest
+  functor : {ts us vs rest w hs f ss : _} → SpellsBefore ts hs us → Spells inherited us f (w ∷ vs) → IsReserved W.With w →
       Spells (listed S.Comma substitution) vs ss rest → SpellsRest ts (With hs f ss None) rest
-  functor_with_body : {ts us vs ws rest : Tokens} {w s : SourceToken} {hs : List Inherited}
-      {f : Inherited} {ss : List Substitution} {b : Body} →
-      SpellsBefore ts hs us → Spells inherited us f (w ∷ vs) → IsReserved W.With w →
-      Spells (listed S.Comma substitution) vs ss (s ∷ ws) → Is S.DoubleStar s → SpellsBody ws b rest →
+  functor_with_body : {ts us vs ws rest w s hs f ss b : _} → SpellsBefore ts hs us → Spells inherited us f (w ∷ vs) →
+      IsReserved W.With w → Spells (listed S.Comma substitution) vs ss (s ∷ ws) → Is S.DoubleStar s → SpellsBody ws b rest →
       SpellsRest ts (With hs f ss (Some b)) rest
 
 -- nothing is left but a semicolon
 pub data AtEnd : Tokens → Type 0 where
   at_once : AtEnd []
-  after_semicolon : {t : SourceToken} → Is S.Semicolon t → AtEnd (t ∷ [])
+  after_semicolon : {t : _} → Is S.Semicolon t → AtEnd (t ∷ [])
 
 -- the tokens of a file are the module
 pub data SpellsModule : Tokens → Module → Type 0 where
-  a_module : {ts us end : Tokens} {e : SourceToken} {h : Header} {r : Rest} →
-      SpellsHeader ts h (e ∷ us) → Is S.Equals e → SpellsRest us r end → AtEnd end →
+  a_module : {ts us end e h r : _} → SpellsHeader ts h (e ∷ us) → Is S.Equals e → SpellsRest us r end → AtEnd end →
       SpellsModule ts (record { header = h; rest = r })

@@ -162,9 +162,8 @@ module _ (mods : List Module) where
 
   -- the judgement as it is written
   pub data Writes : Declared → Judgement → Type 0 where
-    own_text : {M : List ℕ} (k : ℕ) {m : Module} {j : Judgement} →
-        Is M m → slice_get (judgements_of m) k ≡ Some j → Writes (own M k) j
-    copied_text : {M : List ℕ} {d : Declared} {j : Judgement} → Writes d j → Writes (copy M d) j
+    own_text : {M : _} (k : ℕ) {m j : _} → Is M m → slice_get (judgements_of m) k ≡ Some j → Writes (own M k) j
+    copied_text : {M d j : _} → Writes d j → Writes (copy M d) j
 
   -- an own judgement declares the name
   abbrev pub OwnName : Module → List ℕ → Type 0
@@ -172,18 +171,14 @@ module _ (mods : List Module) where
 
   -- the module has the judgement under the name
   pub data Has : List ℕ → List ℕ → Declared → Type 0 where
-    declares : {M x : List ℕ} (k : ℕ) {m : Module} {j : Judgement} →
-        Is M m → slice_get (judgements_of m) k ≡ Some j → Contains (declared_names j) x → Has M x (own M k)
-    inherits : {M x : List ℕ} {m : Module} {h : Inherited} {d : Declared} →
-        Is M m → Contains (inherited_of m.rest) h → lets_through h x ≡ true →
+    declares : {M x : _} (k : ℕ) {m j : _} → Is M m → slice_get (judgements_of m) k ≡ Some j → Contains (declared_names j) x →
+        Has M x (own M k)
+    inherits : {M x : _} {m : Module} {h d : _} → Is M m → Contains (inherited_of m.rest) h → lets_through h x ≡ true →
         Has (inherited_name h) x d → Has M x d
-    keeps : {M x : List ℕ} {m : Module} {n i : PlacedName} {d : Declared} {j : Judgement} →
-        Is M m → m.header ≡ Instance n i → Has i.name x d → Writes d j → is_undefined j ≡ false →
-        ¬ (OwnName m (main_name j x)) → Has M x (copy M d)
-    instantiates : {M x : List ℕ} {m : Module} {hs : List Inherited} {f : Inherited}
-        {ss : List Substitution} {b : Option Body} {d : Declared} →
-        Is M m → m.rest ≡ With hs f ss b → lets_through f x ≡ true → Has (inherited_name f) x d →
-        Has M x (copy M d)
+    keeps : {M x : _} {m : Module} {n : _} {i : PlacedName} {d j : _} → Is M m → m.header ≡ Instance n i → Has i.name x d →
+        Writes d j → is_undefined j ≡ false → ¬ (OwnName m (main_name j x)) → Has M x (copy M d)
+    instantiates : {M x : _} {m : Module} {hs f ss b d : _} → Is M m → m.rest ≡ With hs f ss b → lets_through f x ≡ true →
+        Has (inherited_name f) x d → Has M x (copy M d)
 
   -- the module has a judgement under the name that terms may name
   pub record HasNameable (M x : List ℕ) (d : Declared) : Type 0 where
@@ -194,51 +189,44 @@ module _ (mods : List Module) where
 
   -- a module that is opened under a name: an alias, or its own
   pub data OpensAs : Module → List ℕ → List ℕ → Type 0 where
-    plainly : {m : Module} {n : PlacedName} → Contains (opened_of m) (Plain n) → OpensAs m n.name n.name
-    by_alias : {m : Module} {q n : PlacedName} → Contains (opened_of m) (Qualified q n) → OpensAs m q.name n.name
-    by_name : {m : Module} {q n : PlacedName} → Contains (opened_of m) (Qualified q n) → OpensAs m n.name n.name
+    plainly : {m : _} {n : PlacedName} → Contains (opened_of m) (Plain n) → OpensAs m n.name n.name
+    by_alias : {m : _} {q n : PlacedName} → Contains (opened_of m) (Qualified q n) → OpensAs m q.name n.name
+    by_name : {m q : _} {n : PlacedName} → Contains (opened_of m) (Qualified q n) → OpensAs m n.name n.name
 
   -- what a bare name means in a module, where no local variable has it
   pub data Sees : List ℕ → List ℕ → Declared → Type 0 where
-    at_home : {M x : List ℕ} {d : Declared} → HasNameable M x d → Sees M x d
-    from_opened : {M x : List ℕ} {m : Module} {n : PlacedName} {d : Declared} →
-        Is M m → ((e : Declared) → ¬ (HasNameable M x e)) → Contains (opened_of m) (Plain n) →
-        HasNameable n.name x d → Sees M x d
+    at_home : {M x d : _} → HasNameable M x d → Sees M x d
+    from_opened : {M x m : _} {n : PlacedName} {d : _} → Is M m → ((e : Declared) → ¬ (HasNameable M x e)) →
+        Contains (opened_of m) (Plain n) → HasNameable n.name x d → Sees M x d
 
   -- what Q.x means in a module, where no local variable is called Q
   pub data SeesQualified : List ℕ → List ℕ → List ℕ → Declared → Type 0 where
-    from_named : {M Q N x : List ℕ} {m : Module} {d : Declared} →
-        Is M m → OpensAs m Q N → HasNameable N x d → SeesQualified M Q x d
+    from_named : {M Q N x m d : _} → Is M m → OpensAs m Q N → HasNameable N x d → SeesQualified M Q x d
 
   -- what the instances of a with give for a constant of an interface under a name: the first interface that
   -- has it counts
   pub data Argument : List Substitution → List ℕ → Declared → Declared → Type 0 where
-    here : {s : Substitution} {ss : List Substitution} {y : List ℕ} {d e : Declared} →
-        HasNameable s.interface.name y d → HasNameable s.instance.name y e → Argument (s ∷ ss) y d e
-    later : {s : Substitution} {ss : List Substitution} {y : List ℕ} {d e : Declared} →
-        ¬ (HasNameable s.interface.name y d) → Argument ss y d e → Argument (s ∷ ss) y d e
+    here : {s : Substitution} {ss y d e : _} → HasNameable s.interface.name y d → HasNameable s.instance.name y e →
+        Argument (s ∷ ss) y d e
+    later : {s : Substitution} {ss y d e : _} → ¬ (HasNameable s.interface.name y d) → Argument ss y d e →
+        Argument (s ∷ ss) y d e
 
   -- what stands for a judgement under one of its names in the copies that a module makes: an instance's own
   -- for that of its interface; in a with module that of the instance for the interface's, and the copy for
   -- the functor's. A parameter type is copied whole where the restriction lets one of its names through
   pub data Replaces : List ℕ → List ℕ → Declared → Declared → Type 0 where
-    by_instance : {M y : List ℕ} {m : Module} {n i : PlacedName} {d e : Declared} →
-        Is M m → m.header ≡ Instance n i → HasNameable i.name y d → HasNameable M y e → Replaces M y d e
-    by_argument : {M y : List ℕ} {m : Module} {hs : List Inherited} {f : Inherited}
-        {ss : List Substitution} {b : Option Body} {d e : Declared} →
-        Is M m → m.rest ≡ With hs f ss b → Argument ss y d e → Replaces M y d e
-    by_copy : {M y z : List ℕ} {m : Module} {hs : List Inherited} {f : Inherited}
-        {ss : List Substitution} {b : Option Body} {d : Declared} {j : Judgement} →
-        Is M m → m.rest ≡ With hs f ss b → Writes d j → Has (inherited_name f) z d → lets_through f z ≡ true →
-        Contains (declared_names j) y → main_name j y ≡ main_name j z → Replaces M y d (copy M d)
+    by_instance : {M y : _} {m : Module} {n : _} {i : PlacedName} {d e : _} → Is M m → m.header ≡ Instance n i →
+        HasNameable i.name y d → HasNameable M y e → Replaces M y d e
+    by_argument : {M y : _} {m : Module} {hs f ss b d e : _} → Is M m → m.rest ≡ With hs f ss b → Argument ss y d e →
+        Replaces M y d e
+    by_copy : {M y z : _} {m : Module} {hs f ss b d j : _} → Is M m → m.rest ≡ With hs f ss b → Writes d j →
+        Has (inherited_name f) z d → lets_through f z ≡ true → Contains (declared_names j) y → main_name j y ≡ main_name j z →
+        Replaces M y d (copy M d)
 
   -- what a name in a judgement means: in an own one by the module where it is written, in a copy what
   -- stands for what it meant, where there is something, and else the same
   pub data Means : Declared → Written → Declared → Type 0 where
-    own_name : {M x : List ℕ} (k : ℕ) {d : Declared} → Sees M x d → Means (own M k) (bare x) d
-    own_qualified : {M Q x : List ℕ} (k : ℕ) {d : Declared} →
-        SeesQualified M Q x d → Means (own M k) (qualified Q x) d
-    replaced : {M : List ℕ} {j d e : Declared} {w : Written} →
-        Means j w d → Replaces M (name_of w) d e → Means (copy M j) w e
-    remains : {M : List ℕ} {j d : Declared} {w : Written} →
-        Means j w d → ((e : Declared) → ¬ (Replaces M (name_of w) d e)) → Means (copy M j) w d
+    own_name : {M x : _} (k : ℕ) {d : _} → Sees M x d → Means (own M k) (bare x) d
+    own_qualified : {M Q x : _} (k : ℕ) {d : _} → SeesQualified M Q x d → Means (own M k) (qualified Q x) d
+    replaced : {M j d e w : _} → Means j w d → Replaces M (name_of w) d e → Means (copy M j) w e
+    remains : {M j d w : _} → Means j w d → ((e : Declared) → ¬ (Replaces M (name_of w) d e)) → Means (copy M j) w d

@@ -159,18 +159,17 @@ module _ (mods : List Module) (m : Module) where
 
   -- an opened module is looked at for x, or for Q.x
   pub data LooksAt : Option (List ℕ) → List ℕ → Opened → Type 0 where
-    for_bare : {x : List ℕ} {n : PlacedName} → Contains (opened_of m) (Plain n) →
-        ((d : Declared) → ¬ (HasNameable mods own_name x d)) → LooksAt None x (Plain n)
-    for_plain : {x : List ℕ} {n : PlacedName} → Contains (opened_of m) (Plain n) → LooksAt (Some n.name) x (Plain n)
-    for_alias : {x : List ℕ} {q n : PlacedName} → Contains (opened_of m) (Qualified q n) →
+    for_bare : {x n : _} → Contains (opened_of m) (Plain n) → ((d : Declared) → ¬ (HasNameable mods own_name x d)) →
+        LooksAt None x (Plain n)
+    for_plain : {x : _} {n : PlacedName} → Contains (opened_of m) (Plain n) → LooksAt (Some n.name) x (Plain n)
+    for_alias : {x : _} {q : PlacedName} {n : _} → Contains (opened_of m) (Qualified q n) →
         LooksAt (Some q.name) x (Qualified q n)
-    for_name : {x : List ℕ} {q n : PlacedName} → Contains (opened_of m) (Qualified q n) →
-        LooksAt (Some n.name) x (Qualified q n)
+    for_name : {x q : _} {n : PlacedName} → Contains (opened_of m) (Qualified q n) → LooksAt (Some n.name) x (Qualified q n)
 
   -- what x, or Q.x, means in the module
   pub data Meaning : Option (List ℕ) → List ℕ → Declared → Type 0 where
-    bare_meaning : {x : List ℕ} {d : Declared} → Sees mods own_name x d → Meaning None x d
-    qualified_meaning : {Q x : List ℕ} {d : Declared} → SeesQualified mods own_name Q x d → Meaning (Some Q) x d
+    bare_meaning : {x d : _} → Sees mods own_name x d → Meaning None x d
+    qualified_meaning : {Q x d : _} → SeesQualified mods own_name Q x d → Meaning (Some Q) x d
 
   abbrev pub Means : Option (List ℕ) → List ℕ → Type 0
   Means q x = (d : Declared) × Meaning q x d
@@ -196,11 +195,11 @@ module _ (mods : List Module) (m : Module) where
 
   -- a name that is used in the judgement at a place: x, or Q.x, where no variable has the name
   pub data Uses (constructors : List ℕ → Bool) (j : Judgement) : Option (List ℕ) → List ℕ → Place → Type 0 where
-    alone : {x : List ℕ} {p : Place} → Contains (sites_of constructors j) (a_name x p) → Uses constructors j None x p
-    before_dot : {Q x : List ℕ} {p whole : Place} → Contains (sites_of constructors j) (a_dotted_name Q p x whole) →
-        ¬ (Opens Q) → Uses constructors j None Q p
-    qualified_use : {Q x : List ℕ} {p whole : Place} → Contains (sites_of constructors j) (a_dotted_name Q p x whole) →
-        Opens Q → Uses constructors j (Some Q) x whole
+    alone : {x p : _} → Contains (sites_of constructors j) (a_name x p) → Uses constructors j None x p
+    before_dot : {Q x p whole : _} → Contains (sites_of constructors j) (a_dotted_name Q p x whole) → ¬ (Opens Q) →
+        Uses constructors j None Q p
+    qualified_use : {Q x p whole : _} → Contains (sites_of constructors j) (a_dotted_name Q p x whole) → Opens Q →
+        Uses constructors j (Some Q) x whole
 
   -- a pattern within a branch of the judgement, with the variables around that
   abbrev pub HasPattern : (List ℕ → Bool) → Judgement → Locals → Pattern → Type 0
@@ -209,10 +208,10 @@ module _ (mods : List Module) (m : Module) where
 
   -- a name where only a constructor may stand, or a constructor or a variable
   pub data Heads (constructors : List ℕ → Bool) (j : Judgement) : Option (List ℕ) → List ℕ → Place → Bool → Type 0 where
-    applied_head : {xs : Locals} {p : Pattern} {x : List ℕ} {ps : List Pattern} {a : Place} → HasPattern constructors j xs p →
-        out-Pattern p ≡ P.Con None (Written x) ps a → Heads constructors j None x a (is_local x xs)
-    qualified_head : {xs : Locals} {p : Pattern} {Q x : List ℕ} {ps : List Pattern} {a : Place} → HasPattern constructors j xs p →
-        out-Pattern p ≡ P.Con (Some Q) (Written x) ps a → Heads constructors j (Some Q) x a (is_local Q xs)
+    applied_head : {xs p x ps a : _} → HasPattern constructors j xs p → out-Pattern p ≡ P.Con None (Written x) ps a →
+        Heads constructors j None x a (is_local x xs)
+    qualified_head : {xs p Q x ps a : _} → HasPattern constructors j xs p → out-Pattern p ≡ P.Con (Some Q) (Written x) ps a →
+        Heads constructors j (Some Q) x a (is_local Q xs)
 
   -- the test says of each bare name whether it means a constructor
   abbrev pub AreConstructors : (List ℕ → Bool) → Type 0
@@ -221,34 +220,28 @@ module _ (mods : List Module) (m : Module) where
   -- what is broken in the names of an own judgement: the place, the rule, the name, and for an ambiguous one
   -- the two opened modules
   pub data BreaksUse (constructors : List ℕ → Bool) (j : Judgement) : Place → Rule → List ℕ → List Opened → Type 0 where
-    means_nothing : {q : Option (List ℕ)} {x : List ℕ} {p : Place} → Uses constructors j q x p → ¬ (Means q x) →
+    means_nothing : {q x p : _} → Uses constructors j q x p → ¬ (Means q x) →
         ¬ ((is_abstract m.header ≡ true) × (q ≡ None) × IsBuiltIn x) → BreaksUse constructors j p R.Unknown x []
-    heads_nothing : {q : Option (List ℕ)} {x : List ℕ} {p : Place} {hidden : Bool} → Heads constructors j q x p hidden →
-        (hidden ≡ true) ⊎ ¬ (MeansConstructor q x) → BreaksUse constructors j p R.Unknown x []
-    variable_as_type : {x : List ℕ} {p : Place} → is_abstract m.header ≡ false →
-        Contains (sites_of constructors j) (a_variable_type x p) →
+    heads_nothing : {q x p hidden : _} → Heads constructors j q x p hidden → (hidden ≡ true) ⊎ ¬ (MeansConstructor q x) →
         BreaksUse constructors j p R.Unknown x []
-    word_alone : {w : List ℕ} {p : Place} → Contains (sites_of constructors j) (a_word w p) →
-        BreaksUse constructors j p R.Unknown w []
-    ambiguous_use : {q : Option (List ℕ)} {x : List ℕ} {p : Place} {one other : Opened} → Uses constructors j q x p →
-        TwoGive q x one other →
+    variable_as_type : {x p : _} → is_abstract m.header ≡ false → Contains (sites_of constructors j) (a_variable_type x p) →
+        BreaksUse constructors j p R.Unknown x []
+    word_alone : {w p : _} → Contains (sites_of constructors j) (a_word w p) → BreaksUse constructors j p R.Unknown w []
+    ambiguous_use : {q x p one other : _} → Uses constructors j q x p → TwoGive q x one other →
         BreaksUse constructors j p R.Ambiguous x (one ∷ other ∷ [])
-    ambiguous_head : {q : Option (List ℕ)} {x : List ℕ} {p : Place} {one other : Opened} → Heads constructors j q x p false →
-        MeansConstructor q x → TwoGive q x one other → BreaksUse constructors j p R.Ambiguous x (one ∷ other ∷ [])
-    ambiguous_leaf : {xs : Locals} {r : Pattern} {x : List ℕ} {p : Place} {one other : Opened} → HasPattern constructors j xs r →
-        out-Pattern r ≡ P.Name (Written x) p → is_local x xs ≡ false → MeansConstructor None x → TwoGive None x one other →
+    ambiguous_head : {q x p one other : _} → Heads constructors j q x p false → MeansConstructor q x → TwoGive q x one other →
         BreaksUse constructors j p R.Ambiguous x (one ∷ other ∷ [])
-    bound_twice : {xs : Locals} {r : Pattern} (before middle after : Bound) {x : List ℕ} (a : Place) {b : Place} →
-        HasPattern constructors j xs r →
+    ambiguous_leaf : {xs r x p one other : _} → HasPattern constructors j xs r → out-Pattern r ≡ P.Name (Written x) p →
+        is_local x xs ≡ false → MeansConstructor None x → TwoGive None x one other →
+        BreaksUse constructors j p R.Ambiguous x (one ∷ other ∷ [])
+    bound_twice : {xs r : _} (before middle after : Bound) {x : _} (a : Place) {b : _} → HasPattern constructors j xs r →
         bound_in (is_bound constructors xs) r ≡ before ++ (x, a) ∷ middle ++ (x, b) ∷ after →
         BreaksUse constructors j b R.PatternVars x []
-    bound_on_one_side : {xs : Locals} {r p q one other : Pattern} {x : List ℕ} {a b : Place} → HasPattern constructors j xs r →
-        out-Pattern r ≡ P.Or p q a → ((one ≡ p) × (other ≡ q)) ⊎ ((one ≡ q) × (other ≡ p)) →
-        Contains (bound_in (is_bound constructors xs) one) (x, b) →
+    bound_on_one_side : {xs r p q one other x a b : _} → HasPattern constructors j xs r → out-Pattern r ≡ P.Or p q a →
+        ((one ≡ p) × (other ≡ q)) ⊎ ((one ≡ q) × (other ≡ p)) → Contains (bound_in (is_bound constructors xs) one) (x, b) →
         ((c : Place) → ¬ (Contains (bound_in (is_bound constructors xs) other) (x, c))) →
         BreaksUse constructors j b R.PatternVars x []
-    bound_in_star : {xs : Locals} {r p : Pattern} {x : List ℕ} {a b : Place} → HasPattern constructors j xs r →
-        out-Pattern r ≡ P.Star p a →
+    bound_in_star : {xs r p x a b : _} → HasPattern constructors j xs r → out-Pattern r ≡ P.Star p a →
         Contains (bound_in (is_bound constructors xs) p) (x, b) → BreaksUse constructors j b R.PatternVars x []
 
   -- the moment: by place, at one place by number, and of ambiguous meanings the first that differ
@@ -258,11 +251,8 @@ module _ (mods : List Module) (m : Module) where
 
   -- what is broken in the names of a module's own judgements
   pub data BreaksNames (constructors : List ℕ → Bool) : Moment → Refusal → Type 0 where
-    in_judgement : {j : Judgement} {p : Place} {rule : Rule} {x : List ℕ} {os : List Opened} → Contains (judgements_of m) j →
-        BreaksUse constructors j p rule x os →
-        BreaksNames constructors (place_moment p ++ code_of rule ∷ opened_moment os)
-        (refusal rule p (x ∷ map (λ o. (opened_at o).name) os))
-    abstract_lacks : {k : Keyword} {n : PlacedName} {A : List ℕ} → Contains (own_names m) (Some k, n) →
-        abstract_name m.header ≡ Some A →
+    in_judgement : {j p rule x os : _} → Contains (judgements_of m) j → BreaksUse constructors j p rule x os →
+        BreaksNames constructors (place_moment p ++ code_of rule ∷ opened_moment os) (refusal rule p (x ∷ map (λ o. (opened_at o).name) os))
+    abstract_lacks : {k : _} {n : PlacedName} {A : _} → Contains (own_names m) (Some k, n) → abstract_name m.header ≡ Some A →
         Lacks mods A k n.name →
         BreaksNames constructors (place_moment n.place ++ code_of R.Unknown ∷ []) (refusal R.Unknown n.place (n.name ∷ []))

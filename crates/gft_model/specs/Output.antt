@@ -17,17 +17,17 @@ is_plain word = not (begins_with_hyphen word) || length word == 1
 -- the words give these values of `--make`, these of `--workload` and these files; after `--` every word is a file
 pub data AreWords : List (List ℕ) → List (List ℕ) → List (List ℕ) → List (List ℕ) → Type 0 where
   none : AreWords [] [] [] []
-  a_file : {w : List ℕ} {ws outs counts files : List (List ℕ)} → is_plain w ≡ true → AreWords ws outs counts files
-      → AreWords (w ∷ ws) outs counts (w ∷ files)
-  only_files : {files : List (List ℕ)} → AreWords (codes "--" ∷ files) [] [] files
-  an_out : {v : List ℕ} {ws outs counts files : List (List ℕ)} → is_plain v ≡ true → AreWords ws outs counts files
-      → AreWords (codes "--make" ∷ v ∷ ws) (v ∷ outs) counts files
-  an_out_is : {v : List ℕ} {ws outs counts files : List (List ℕ)} → AreWords ws outs counts files
-      → AreWords ((codes "--make=" ++ v) ∷ ws) (v ∷ outs) counts files
-  a_count : {v : List ℕ} {ws outs counts files : List (List ℕ)} → is_plain v ≡ true → AreWords ws outs counts files
-      → AreWords (codes "--workload" ∷ v ∷ ws) outs (v ∷ counts) files
-  a_count_is : {v : List ℕ} {ws outs counts files : List (List ℕ)} → AreWords ws outs counts files
-      → AreWords ((codes "--workload=" ++ v) ∷ ws) outs (v ∷ counts) files
+  a_file : {w ws outs counts files : _} → is_plain w ≡ true → AreWords ws outs counts files →
+      AreWords (w ∷ ws) outs counts (w ∷ files)
+  only_files : {files : _} → AreWords (codes "--" ∷ files) [] [] files
+  an_out : {v ws outs counts files : _} → is_plain v ≡ true → AreWords ws outs counts files →
+      AreWords (codes "--make" ∷ v ∷ ws) (v ∷ outs) counts files
+  an_out_is : {v ws outs counts files : _} → AreWords ws outs counts files →
+      AreWords ((codes "--make=" ++ v) ∷ ws) (v ∷ outs) counts files
+  a_count : {v ws outs counts files : _} → is_plain v ≡ true → AreWords ws outs counts files →
+      AreWords (codes "--workload" ∷ v ∷ ws) outs (v ∷ counts) files
+  a_count_is : {v ws outs counts files : _} → AreWords ws outs counts files →
+      AreWords ((codes "--workload=" ++ v) ∷ ws) outs (v ∷ counts) files
 
 -- a session with some files, a portable file to be made of files, or the workload of so many sentences
 pub data Mode : Type 0 where
@@ -46,11 +46,11 @@ words_after (program ∷ words) = words
 
 -- the mode that the words of the program ask for
 pub data Asks (words : List (List ℕ)) : Mode → Type 0 where
-  for_session : {files : List (List ℕ)} → AreWords (words_after words) [] [] files → Asks words (session files)
-  to_make : {out file : List ℕ} {files : List (List ℕ)} → AreWords (words_after words) (out ∷ []) [] (file ∷ files)
-      → Asks words (make out (file ∷ files))
-  for_workload : {count : List ℕ} → AreWords (words_after words) [] (count ∷ []) [] → is_count count ≡ true
-      → Asks words (workload (digits_value 10 count))
+  for_session : {files : _} → AreWords (words_after words) [] [] files → Asks words (session files)
+  to_make : {out file files : _} → AreWords (words_after words) (out ∷ []) [] (file ∷ files) →
+      Asks words (make out (file ∷ files))
+  for_workload : {count : _} → AreWords (words_after words) [] (count ∷ []) [] → is_count count ≡ true →
+      Asks words (workload (digits_value 10 count))
 
 -- the line of a wrong call
 abbrev pub usage_line : List ℕ
@@ -95,10 +95,10 @@ module _ (S : Sources) where
   -- the lines are answered in order, to the last or to one that ends the session
   pub data LinesStep : Held → List (List ℕ) → Written → Type 0 where
     end : {held : Held} → LinesStep held [] (plain [] held.files)
-    quit : {held : Held} {line : List ℕ} {lines : List (List ℕ)} {n : ℕ} {a : Answer} → Steps S held line n a
-        → a.ends ≡ true → LinesStep held (line ∷ lines) (before a n (plain [] a.after.files))
-    next : {held : Held} {line : List ℕ} {lines : List (List ℕ)} {n : ℕ} {a : Answer} {w : Written} → Steps S held line n a
-        → a.ends ≡ false → LinesStep a.after lines w → LinesStep held (line ∷ lines) (before a n w)
+    quit : {held line lines n : _} {a : Answer} → Steps S held line n a → a.ends ≡ true →
+        LinesStep held (line ∷ lines) (before a n (plain [] a.after.files))
+    next : {held line lines n : _} {a : Answer} {w : _} → Steps S held line n a → a.ends ≡ false → LinesStep a.after lines w →
+        LinesStep held (line ∷ lines) (before a n w)
 
   -- what a command with file names of the program's words answers
   pub record FilesStep (held : Held) (verb : Verb) (names : List (List ℕ)) (n : ℕ) (a : Answer) : Type 0 where
@@ -108,15 +108,14 @@ module _ (S : Sources) where
 
   -- what a run writes over the words, the input and the files
   pub data Output (words : List (List ℕ)) (input : List ℕ) (files : Files) : Written → Type 0 where
-    lines : {w : Written} → Asks words (session []) → LinesStep (unbegun files) (lines_of input) w → Output words input files w
-    file_lines : {file : List ℕ} {names : List (List ℕ)} {n : ℕ} {a : Answer} {w : Written}
-        → Asks words (session (file ∷ names)) → FilesStep (unbegun files) Import (file ∷ names) n a
-        → LinesStep a.after (lines_of input) w → Output words input files (before a n w)
-    made : {out : List ℕ} {names : List (List ℕ)} {n m : ℕ} {a b : Answer} → Asks words (make out names)
-        → FilesStep (unbegun files) Import names n a → a.refused ≡ false → FilesStep a.after WritePortable (out ∷ []) m b
-        → Output words input files (before a n (before b m (plain [] b.after.files)))
-    not_made : {out : List ℕ} {names : List (List ℕ)} {n : ℕ} {a : Answer} → Asks words (make out names)
-        → FilesStep (unbegun files) Import names n a → a.refused ≡ true
-        → Output words input files (before a n (plain [] a.after.files))
-    counted : {n : ℕ} → Asks words (workload n) → Output words input files (plain (workload_text n ∷ []) files)
+    lines : {w : _} → Asks words (session []) → LinesStep (unbegun files) (lines_of input) w → Output words input files w
+    file_lines : {file names n : _} {a : Answer} {w : _} → Asks words (session (file ∷ names)) →
+        FilesStep (unbegun files) Import (file ∷ names) n a → LinesStep a.after (lines_of input) w →
+        Output words input files (before a n w)
+    made : {out names n m : _} {a b : Answer} → Asks words (make out names) → FilesStep (unbegun files) Import names n a →
+        a.refused ≡ false → FilesStep a.after WritePortable (out ∷ []) m b →
+        Output words input files (before a n (before b m (plain [] b.after.files)))
+    not_made : {out names n : _} {a : Answer} → Asks words (make out names) → FilesStep (unbegun files) Import names n a →
+        a.refused ≡ true → Output words input files (before a n (plain [] a.after.files))
+    counted : {n : _} → Asks words (workload n) → Output words input files (plain (workload_text n ∷ []) files)
     wrong_call : ((mode : Mode) → ¬ Asks words mode) → Output words input files (plain (usage_line ∷ []) files)

@@ -52,42 +52,29 @@ pattern_form p = plain_pattern (out-Pattern p)
 mutual
   -- the pattern fits the type and binds the variables
   pub data PatternFits : CType → Pattern → Scope → Type 0 where
-    either : {T : CType} {r p q : Pattern} {place : Place} {Γ Δ : Scope} →
-        pattern_form r ≡ Or p q place → PatternFits T p Γ → PatternFits T q Δ → SameScope Γ Δ →
+    either : {T r p q place Γ Δ : _} → pattern_form r ≡ Or p q place → PatternFits T p Γ → PatternFits T q Δ → SameScope Γ Δ →
         PatternFits T r Γ
-    sequence : {r p q : Pattern} {place : Place} {Γ Δ : Scope} → pattern_form r ≡ Seq p q place →
-        PatternFits str_type p Γ → PatternFits str_type q Δ → PatternFits str_type r (Γ ++ Δ)
-    constructor_with : {T : CType} {r : Pattern} {m : Option (List ℕ)} {c : Whole} {ps : List Pattern}
-        {place : Place} {Ts : List CType} {Γ : Scope} →
-        pattern_form r ≡ Con m (WholeName c) ps place → Constructs c Ts T → EachFits Ts ps Γ →
-        PatternFits T r Γ
-    repeated : {r p : Pattern} {place : Place} → pattern_form r ≡ Star p place →
-        PatternFits str_type p [] → PatternFits str_type r []
-    as_well : {T : CType} {r p : Pattern} {x : List ℕ} {place : Place} {Γ : Scope} →
-        pattern_form r ≡ As x p place → PatternFits T p Γ → PatternFits T r ((x, T) ∷ Γ)
-    anything : {T : CType} {r : Pattern} {place : Place} → pattern_form r ≡ Any place →
-        PatternFits T r []
-    character : {r : Pattern} {place : Place} → pattern_form r ≡ One place →
-        PatternFits str_type r []
-    variable : {T : CType} {r : Pattern} {x : List ℕ} {place : Place} →
-        pattern_form r ≡ Name (Written x) place → PatternFits T r ((x, T) ∷ [])
-    literal : {r : Pattern} {t : List ℕ} {place : Place} → pattern_form r ≡ Text t place →
-        PatternFits str_type r []
-    number : {T : CType} {r : Pattern} {n : ℕ} {place : Place} → pattern_form r ≡ Num n place →
-        IsSubtype (number_type n) T → PatternFits T r []
-    record_of : {T : CType} {r : Pattern} {fs : List (PatternField Pattern)} {gs : FieldTypes} {place : Place} {Γ : Scope} →
-        pattern_form r ≡ Fields fs place → out-CType T ≡ CType-F.Record gs → FieldsFit gs fs Γ →
+    sequence : {r p q place Γ Δ : _} → pattern_form r ≡ Seq p q place → PatternFits str_type p Γ → PatternFits str_type q Δ →
+        PatternFits str_type r (Γ ++ Δ)
+    constructor_with : {T r m c ps place Ts Γ : _} → pattern_form r ≡ Con m (WholeName c) ps place → Constructs c Ts T →
+        EachFits Ts ps Γ → PatternFits T r Γ
+    repeated : {r p place : _} → pattern_form r ≡ Star p place → PatternFits str_type p [] → PatternFits str_type r []
+    as_well : {T r p x place Γ : _} → pattern_form r ≡ As x p place → PatternFits T p Γ → PatternFits T r ((x, T) ∷ Γ)
+    anything : {T r place : _} → pattern_form r ≡ Any place → PatternFits T r []
+    character : {r place : _} → pattern_form r ≡ One place → PatternFits str_type r []
+    variable : {T r x place : _} → pattern_form r ≡ Name (Written x) place → PatternFits T r ((x, T) ∷ [])
+    literal : {r t place : _} → pattern_form r ≡ Text t place → PatternFits str_type r []
+    number : {T r n place : _} → pattern_form r ≡ Num n place → IsSubtype (number_type n) T → PatternFits T r []
+    record_of : {T r fs gs place Γ : _} → pattern_form r ≡ Fields fs place → out-CType T ≡ CType-F.Record gs → FieldsFit gs fs Γ →
         PatternFits T r Γ
 
   -- as many patterns as types, each fits its own
   pub data EachFits : List CType → List Pattern → Scope → Type 0 where
     no_more : EachFits [] [] []
-    more : {T : CType} {Ts : List CType} {p : Pattern} {ps : List Pattern} {Γ Δ : Scope} →
-        PatternFits T p Γ → EachFits Ts ps Δ → EachFits (T ∷ Ts) (p ∷ ps) (Γ ++ Δ)
+    more : {T Ts p ps Γ Δ : _} → PatternFits T p Γ → EachFits Ts ps Δ → EachFits (T ∷ Ts) (p ∷ ps) (Γ ++ Δ)
 
   -- the patterns of named labels fit their types
   pub data FieldsFit : FieldTypes → List (PatternField Pattern) → Scope → Type 0 where
-    no_field : {gs : FieldTypes} → FieldsFit gs [] []
-    field : {gs : FieldTypes} {l : List ℕ} {p : Pattern} {fs : List (PatternField Pattern)} {T : CType} {Γ Δ : Scope} →
-        field_of l gs ≡ Some T → PatternFits T p Γ → FieldsFit gs fs Δ →
+    no_field : {gs : _} → FieldsFit gs [] []
+    field : {gs l p fs T Γ Δ : _} → field_of l gs ≡ Some T → PatternFits T p Γ → FieldsFit gs fs Δ →
         FieldsFit gs (record { labels = l ∷ []; pattern = p } ∷ fs) (Γ ++ Δ)

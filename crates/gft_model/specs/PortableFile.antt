@@ -130,9 +130,8 @@ pub record Reads (bytes : List ℕ) (g : Grammar) : Type 0 where
 
 -- the first fault of the bytes: a rule that a field breaks, or a byte after the grammar, with its offset
 pub data HasFault (bytes : List ℕ) : Rule → ℕ → Type 0 where
-  of_field : {rule : Rule} {at : ℕ} → outcome file 0 bytes ≡ fault rule at → HasFault bytes rule at
-  after_grammar : {x : FileFields} {at b : ℕ} {rest : List ℕ} → outcome file 0 bytes ≡ got x at (b ∷ rest)
-      → HasFault bytes TooLong at
+  of_field : {rule at : _} → outcome file 0 bytes ≡ fault rule at → HasFault bytes rule at
+  after_grammar : {x at b rest : _} → outcome file 0 bytes ≡ got x at (b ∷ rest) → HasFault bytes TooLong at
 
 -- the fields of the functions, over which concrete syntaxes are read
 abbrev pub functions_of : Abstract → List FunctionFields
@@ -183,15 +182,15 @@ production_offset a c p =
 -- the first flaw of a grammar whose fields are in order, with the offset of its part: categories, functions, and then
 -- productions, concrete syntax by concrete syntax
 pub data IsFlawed (a : Abstract) (cs : List Concrete) : Flaw → ℕ → Type 0 where
-  of_category : (i : ℕ) {c : Cat} {flaw : Flaw} → slice_get (listed a.cats) i ≡ Some c
-      → All (IsCategoryTyped a) (take i (listed a.cats)) → HaveTypesFlaw a [] c.context flaw
-      → IsFlawed a cs flaw (category_offset a i)
-  of_function : (k : ℕ) {f : Fun} {flaw : Flaw} → All (IsCategoryTyped a) a.cats → slice_get a.funs k ≡ Some f
-      → All (IsFunctionTyped a) (take k a.funs) → HaveTypesFlaw a [] (signature_of f) flaw
-      → IsFlawed a cs flaw (function_offset a k)
-  of_production : (l p : ℕ) {c : Concrete} {prod : Prod} → HasTypes a → slice_get cs l ≡ Some c
-      → All IsReduced (take l cs) → slice_get c.prods p ≡ Some prod → All (IsKept c) (take p c.prods) → ¬ IsKept c prod
-      → IsFlawed a cs unproductive (concrete_offset a cs l + production_offset a c p)
+  of_category : (i : ℕ) {c : Cat} {flaw : _} → slice_get (listed a.cats) i ≡ Some c →
+      All (IsCategoryTyped a) (take i (listed a.cats)) → HaveTypesFlaw a [] c.context flaw →
+      IsFlawed a cs flaw (category_offset a i)
+  of_function : (k : ℕ) {f flaw : _} → All (IsCategoryTyped a) a.cats → slice_get a.funs k ≡ Some f →
+      All (IsFunctionTyped a) (take k a.funs) → HaveTypesFlaw a [] (signature_of f) flaw →
+      IsFlawed a cs flaw (function_offset a k)
+  of_production : (l p : ℕ) {c : Concrete} {prod : _} → HasTypes a → slice_get cs l ≡ Some c → All IsReduced (take l cs) →
+      slice_get c.prods p ≡ Some prod → All (IsKept c) (take p c.prods) → ¬ IsKept c prod →
+      IsFlawed a cs unproductive (concrete_offset a cs l + production_offset a c p)
 
 -- the bytes are those of a grammar with a flaw; it comes after the faults of all fields
 pub record IsInvalid (bytes : List ℕ) (flaw : Flaw) (at : ℕ) : Type 0 where

@@ -11,9 +11,9 @@ Moment = List ℕ
 
 -- the first moment comes before the second; what is within a turn comes before that turn ends
 pub data Before : Moment → Moment → Type 0 where
-  within : {n : ℕ} {p : Moment} → Before (n ∷ p) []
-  sooner : {m n : ℕ} {p q : Moment} → m < n → Before (m ∷ p) (n ∷ q)
-  later_on : {n : ℕ} {p q : Moment} → Before p q → Before (n ∷ p) (n ∷ q)
+  within : {n p : _} → Before (n ∷ p) []
+  sooner : {m n p q : _} → m < n → Before (m ∷ p) (n ∷ q)
+  later_on : {n p q : _} → Before p q → Before (n ∷ p) (n ∷ q)
 
 -- in the order of places in a file
 abbrev pub place_moment : Place → Moment
@@ -36,12 +36,12 @@ Faults = Moment → Refusal → Type 0
 
 -- faults of one turn that are taken by place
 pub data ByPlace (Broken : Refusal → Type 0) : Moment → Refusal → Type 0 where
-  by_place : {r : Refusal} {p : Place} → Broken r → r.place ≡ Some p → ByPlace Broken (place_moment p) r
+  by_place : {r : Refusal} {p : _} → Broken r → r.place ≡ Some p → ByPlace Broken (place_moment p) r
 
 -- the first is looked at before the second; at one moment the least number counts
 pub data Earlier : Moment → Refusal → Moment → Refusal → Type 0 where
-  by_moment : {m n : Moment} {r s : Refusal} → Before m n → Earlier m r n s
-  by_number : {m : Moment} {r s : Refusal} → code_of r.rule < code_of s.rule → Earlier m r m s
+  by_moment : {m n r s : _} → Before m n → Earlier m r n s
+  by_number : {m : _} {r s : Refusal} → code_of r.rule < code_of s.rule → Earlier m r m s
 
 -- a broken rule before which no other is broken
 pub record IsFirst (Breaks : Faults) (refusal : Refusal) : Type 0 where

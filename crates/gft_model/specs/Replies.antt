@@ -67,13 +67,13 @@ failed_line number word = codes "failed at word " ++ decimal number ++ codes ": 
 
 -- the patterns that are listed, or one notice
 pub data Parses (a : Abstract) (L : Language) (cat : ℕ) (words : List (List ℕ)) (depth : ℕ) : List Item → Type 0 where
-  listed : {t : Tree} {ts : List Tree} → IsListing a L cat words depth (t ∷ ts) → Parses a L cat words depth (map a_tree (t ∷ ts))
-  failed : (number : ℕ) (word : List ℕ) → FailsAt a L cat words number word
-      → Parses a L cat words depth (a_line (failed_line number word) ∷ [])
-  not_complete : Begins a L cat words → ¬ IsSentence a L cat words
-      → Parses a L cat words depth (a_line (codes "not complete") ∷ [])
-  no_tree : IsSentence a L cat words → IsListing a L cat words depth []
-      → Parses a L cat words depth (a_line (codes "no tree") ∷ [])
+  listed : {t ts : _} → IsListing a L cat words depth (t ∷ ts) → Parses a L cat words depth (map a_tree (t ∷ ts))
+  failed : (number : ℕ) (word : List ℕ) → FailsAt a L cat words number word →
+      Parses a L cat words depth (a_line (failed_line number word) ∷ [])
+  not_complete : Begins a L cat words → ¬ IsSentence a L cat words →
+      Parses a L cat words depth (a_line (codes "not complete") ∷ [])
+  no_tree : IsSentence a L cat words → IsListing a L cat words depth [] →
+      Parses a L cat words depth (a_line (codes "no tree") ∷ [])
 
 -- exactly the words and classes of literals that may come next, the words in byte order
 pub record AreNext (a : Abstract) (L : Language) (cat : ℕ) (words tokens : List (List ℕ)) (integer text : Bool) : Type 0 where
@@ -90,10 +90,10 @@ next_items tokens integer text =
 
 -- what may come next, or the notice of the first word that does not fit
 pub data Completes (a : Abstract) (L : Language) (cat : ℕ) (words : List (List ℕ)) : List Item → Type 0 where
-  next : (tokens : List (List ℕ)) (integer text : Bool) → Begins a L cat words → AreNext a L cat words tokens integer text
-      → Completes a L cat words (next_items tokens integer text)
-  failed : (number : ℕ) (word : List ℕ) → FailsAt a L cat words number word
-      → Completes a L cat words (a_line (failed_line number word) ∷ [])
+  next : (tokens : List (List ℕ)) (integer text : Bool) → Begins a L cat words → AreNext a L cat words tokens integer text →
+      Completes a L cat words (next_items tokens integer text)
+  failed : (number : ℕ) (word : List ℕ) → FailsAt a L cat words number word →
+      Completes a L cat words (a_line (failed_line number word) ∷ [])
 
 -- exactly the texts of a tree, each once, in byte order
 pub record AreTexts (L : Language) (t : Tree) (texts : List (List (List ℕ))) : Type 0 where
@@ -102,28 +102,26 @@ pub record AreTexts (L : Language) (t : Tree) (texts : List (List (List ℕ))) :
 
 -- what a command makes of an item, or its refusal
 pub data Makes (g : Loaded) (c : Command) : Item → Result (List Item) Refusal → Type 0 where
-  parsed : {words : List (List ℕ)} {cat : ℕ} {l : List ℕ × Kept} {items : List Item} → c.verb ≡ Parse → text_refusal words ≡ None
-      → category_for g.abs c.cat ≡ Some cat → slice_get (languages_for g.languages c.lang) 0 ≡ Some l
-      → Parses g.abs (language_of g.abs cat l) cat words (unwrap_or c.depth 12) items → Makes g c (a_text words) (Ok items)
-  completed : {words : List (List ℕ)} {cat : ℕ} {l : List ℕ × Kept} {items : List Item} → c.verb ≡ Complete
-      → text_refusal words ≡ None → category_for g.abs c.cat ≡ Some cat
-      → slice_get (languages_for g.languages c.lang) 0 ≡ Some l
-      → Completes g.abs (language_of g.abs cat l) cat words items → Makes g c (a_text words) (Ok items)
-  too_long : {words : List (List ℕ)} {r : Refusal} → text_refusal words ≡ Some r → Makes g c (a_text words) (Err r)
-  linearized : {t : Tree} {cat : ℕ} (texts : List (List (List (List ℕ)))) → c.verb ≡ Linearize → IsSolvable g.abs t
-      → category_for g.abs c.cat ≡ Some cat
-      → AllZip (λ l. AreTexts (language_of g.abs cat l) t) (languages_for g.languages c.lang) texts
-      → Makes g c (a_tree t) (Ok (flat_map (map a_text) texts))
-  unsolved : {t : Tree} {r : Refusal} → IsUnsolved g.abs t r → Makes g c (a_tree t) (Err r)
-  passed : {line : List ℕ} → Makes g c (a_line line) (Ok (a_line line ∷ []))
+  parsed : {words cat l items : _} → c.verb ≡ Parse → text_refusal words ≡ None → category_for g.abs c.cat ≡ Some cat →
+      slice_get (languages_for g.languages c.lang) 0 ≡ Some l →
+      Parses g.abs (language_of g.abs cat l) cat words (unwrap_or c.depth 12) items → Makes g c (a_text words) (Ok items)
+  completed : {words cat l items : _} → c.verb ≡ Complete → text_refusal words ≡ None → category_for g.abs c.cat ≡ Some cat →
+      slice_get (languages_for g.languages c.lang) 0 ≡ Some l → Completes g.abs (language_of g.abs cat l) cat words items →
+      Makes g c (a_text words) (Ok items)
+  too_long : {words r : _} → text_refusal words ≡ Some r → Makes g c (a_text words) (Err r)
+  linearized : {t cat : _} (texts : List (List (List (List ℕ)))) → c.verb ≡ Linearize → IsSolvable g.abs t →
+      category_for g.abs c.cat ≡ Some cat →
+      AllZip (λ l. AreTexts (language_of g.abs cat l) t) (languages_for g.languages c.lang) texts →
+      Makes g c (a_tree t) (Ok (flat_map (map a_text) texts))
+  unsolved : {t r : _} → IsUnsolved g.abs t r → Makes g c (a_tree t) (Err r)
+  passed : {line : _} → Makes g c (a_line line) (Ok (a_line line ∷ []))
 
 -- the commands of a pipe run one after the other, each on all items that the one before gave
 pub data Runs (g : Loaded) : List Command → List Item → Result (List Item) Refusal → Type 0 where
-  done : {items : List Item} → Runs g [] items (Ok items)
-  next : {c : Command} {cs : List Command} {items : List Item} (made : List (List Item)) {result : Result (List Item) Refusal}
-      → InTurn (Makes g c) items (Ok made) → Runs g cs (flat_map (λ xs. xs) made) result → Runs g (c ∷ cs) items result
-  refused : {c : Command} {cs : List Command} {items : List Item} {r : Refusal} → InTurn (Makes g c) items (Err r)
-      → Runs g (c ∷ cs) items (Err r)
+  done : {items : _} → Runs g [] items (Ok items)
+  next : {c cs items : _} (made : List (List Item)) {result : _} → InTurn (Makes g c) items (Ok made) →
+      Runs g cs (flat_map (λ xs. xs) made) result → Runs g (c ∷ cs) items result
+  refused : {c cs items r : _} → InTurn (Makes g c) items (Err r) → Runs g (c ∷ cs) items (Err r)
 
 -- what the first command of a pipe works on
 abbrev pub item_of : Argument → Option Item

@@ -112,9 +112,8 @@ answers_to i = []
 
 -- an item rests on those that the names in it name, and on what these rest on
 pub data Rests (items : List Item) : Item → Item → Type 0 where
-  names_it : {i k : Item} {v : Whole} →
-      Contains items k → Contains (item_names i) v → Contains (answers_to k) v → Rests items i k
-  and_so_on : {i j k : Item} → Rests items i j → Rests items j k → Rests items i k
+  names_it : {i k v : _} → Contains items k → Contains (item_names i) v → Contains (answers_to k) v → Rests items i k
+  and_so_on : {i j k : _} → Rests items i j → Rests items j k → Rests items i k
 
 -- no item of the name rests on one of the name; it goes by name, so an overload is one oper
 abbrev pub NoCycle : List Item → Whole → Type 0

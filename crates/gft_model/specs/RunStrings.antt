@@ -23,29 +23,21 @@ token_at p k = bracketed p (word grammar (codes "?" ++ decimal k) ∷ []) ∷ []
 mutual
   -- the tree at the position p has these components in the case of the nonterminal
   pub data HasValue (a : Abstract) (c : Concrete) : List ℕ → Tree → ℕ → Strings → Type 0 where
-    hole : {p : List ℕ} {t : Tree} {k n : ℕ} {seqs : List (List Sym)} → IsHole t k → k < 2 ^ 32
-        → Contains c.defs (record { result = n; seqs = seqs })
-        → HasValue a c p t n (applied p (token_of k ∷ []) seqs)
-    hole_of_numbers : {p : List ℕ} {t : Tree} {k : ℕ} → IsHole t k → k < 2 ^ 32
-        → HasValue a c p t 0 (token_at p k)
-    hole_of_strings : {p : List ℕ} {t : Tree} {k : ℕ} → IsHole t k → k < 2 ^ 32
-        → HasValue a c p t 1 (token_at p k)
-    number : {p : List ℕ} {t : Tree} {n : ℕ} → IsInteger t n → n < 2 ^ 128
-        → HasValue a c p t 0 (number_at p n)
-    string : {p : List ℕ} {t : Tree} {w : List ℕ} → IsString t w → IsWord w
-        → HasValue a c p t 1 (string_at p w)
-    application : {p : List ℕ} {t : Tree} {f : Fun} {ts : List Tree} {prod : Prod} {args : List Strings}
-        → IsApplication t f.name ts
-        → Contains c.prods prod → slice_get a.funs prod.fun ≡ Some f → HaveValues a c p 0 ts prod.args args
-        → HasValue a c p t prod.result (applied p args prod.seqs)
+    hole : {p t k n seqs : _} → IsHole t k → k < 2 ^ 32 → Contains c.defs (record { result = n; seqs = seqs }) →
+        HasValue a c p t n (applied p (token_of k ∷ []) seqs)
+    hole_of_numbers : {p t k : _} → IsHole t k → k < 2 ^ 32 → HasValue a c p t 0 (token_at p k)
+    hole_of_strings : {p t k : _} → IsHole t k → k < 2 ^ 32 → HasValue a c p t 1 (token_at p k)
+    number : {p t n : _} → IsInteger t n → n < 2 ^ 128 → HasValue a c p t 0 (number_at p n)
+    string : {p t w : _} → IsString t w → IsWord w → HasValue a c p t 1 (string_at p w)
+    application : {p t : _} {f : Fun} {ts : _} {prod : Prod} {args : _} → IsApplication t f.name ts → Contains c.prods prod →
+        slice_get a.funs prod.fun ≡ Some f → HaveValues a c p 0 ts prod.args args →
+        HasValue a c p t prod.result (applied p args prod.seqs)
 
   -- so have its arguments from number i + 1 on, in the cases of their nonterminals
-  pub data HaveValues (a : Abstract) (c : Concrete) : List ℕ → ℕ → List Tree → List ℕ → List Strings
-      → Type 0 where
-    none : {p : List ℕ} {i : ℕ} → HaveValues a c p i [] [] []
-    more : {p : List ℕ} {i n : ℕ} {t : Tree} {ts : List Tree} {ns : List ℕ} {v : Strings} {vs : List Strings}
-        → HasValue a c (p ++ suc i ∷ []) t n v → HaveValues a c p (suc i) ts ns vs
-        → HaveValues a c p i (t ∷ ts) (n ∷ ns) (v ∷ vs)
+  pub data HaveValues (a : Abstract) (c : Concrete) : List ℕ → ℕ → List Tree → List ℕ → List Strings → Type 0 where
+    none : {p i : _} → HaveValues a c p i [] [] []
+    more : {p i n t ts ns v vs : _} → HasValue a c (p ++ suc i ∷ []) t n v → HaveValues a c p (suc i) ts ns vs →
+        HaveValues a c p i (t ∷ ts) (n ∷ ns) (v ∷ vs)
 
 -- b is a bracketed string of the tree; the category is that of a tree that is one hole, and is not looked
 -- at for another tree

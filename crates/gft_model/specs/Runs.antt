@@ -38,18 +38,16 @@ IsOpen r n = out-Run r ≡ layer.Hole n
 mutual
   -- the run is one to the nonterminal
   pub data IsRun (c : Concrete) : Run → ℕ → Type 0 where
-    hole : {r : Run} {n : ℕ} → IsOpen r n → n < nonterminals_of c.infos → IsRun c r n
-    number : {r : Run} {n : ℕ} → IsNumber r n → n < 2 ^ 128 → IsRun c r 0
-    string : {r : Run} {w : List ℕ} → IsText r w → IsWord w → IsRun c r 1
-    application : {r : Run} {p : ℕ} {prod : Prod} {rs : List Run} → slice_get c.prods p ≡ Some prod
-        → IsApplied r p rs
-        → AreRuns c rs prod.args → IsRun c r prod.result
+    hole : {r n : _} → IsOpen r n → n < nonterminals_of c.infos → IsRun c r n
+    number : {r n : _} → IsNumber r n → n < 2 ^ 128 → IsRun c r 0
+    string : {r w : _} → IsText r w → IsWord w → IsRun c r 1
+    application : {r p : _} {prod : Prod} {rs : _} → slice_get c.prods p ≡ Some prod → IsApplied r p rs → AreRuns c rs prod.args →
+        IsRun c r prod.result
 
   -- so are the runs, one nonterminal each
   pub data AreRuns (c : Concrete) : List Run → List ℕ → Type 0 where
     none : AreRuns c [] []
-    more : {r : Run} {rs : List Run} {n : ℕ} {ns : List ℕ} → IsRun c r n → AreRuns c rs ns
-        → AreRuns c (r ∷ rs) (n ∷ ns)
+    more : {r rs n ns : _} → IsRun c r n → AreRuns c rs ns → AreRuns c (r ∷ rs) (n ∷ ns)
 
 -- a string for each component
 abbrev pub Strings : Type 0
@@ -98,7 +96,7 @@ components_of c = by_layers (List ℕ → Strings) (components_step c)
 -- a ref of the nonterminal: how its components make one string; literals have one that no concrete syntax
 -- lists
 pub data IsRef (c : Concrete) : ℕ → List Sym → Type 0 where
-  listed : {n : ℕ} {seq : List Sym} → Contains c.refs (record { arg = n; seq = seq }) → IsRef c n seq
+  listed : {n seq : _} → Contains c.refs (record { arg = n; seq = seq }) → IsRef c n seq
   of_numbers : IsRef c 0 (Arg 0 0 ∷ [])
   of_strings : IsRef c 1 (Arg 0 0 ∷ [])
 
@@ -123,19 +121,17 @@ mutual
   -- where the components ls of the run are needed, its holes are exactly the outermost parts of which none
   -- is needed
   pub data HasUnreadHoles (c : Concrete) : List ℕ → Run → Type 0 where
-    unread : {r : Run} {n : ℕ} → IsOpen r n → HasUnreadHoles c [] r
-    number : {l : ℕ} {ls : List ℕ} {r : Run} {n : ℕ} → IsNumber r n → HasUnreadHoles c (l ∷ ls) r
-    string : {l : ℕ} {ls : List ℕ} {r : Run} {w : List ℕ} → IsText r w → HasUnreadHoles c (l ∷ ls) r
-    application : {l : ℕ} {ls : List ℕ} {r : Run} {p : ℕ} {prod : Prod} {rs : List Run}
-        → slice_get c.prods p ≡ Some prod
-        → IsApplied r p rs → HaveUnreadHoles c prod.seqs (l ∷ ls) 0 rs → HasUnreadHoles c (l ∷ ls) r
+    unread : {r n : _} → IsOpen r n → HasUnreadHoles c [] r
+    number : {l ls r n : _} → IsNumber r n → HasUnreadHoles c (l ∷ ls) r
+    string : {l ls r w : _} → IsText r w → HasUnreadHoles c (l ∷ ls) r
+    application : {l ls r p : _} {prod : Prod} {rs : _} → slice_get c.prods p ≡ Some prod → IsApplied r p rs →
+        HaveUnreadHoles c prod.seqs (l ∷ ls) 0 rs → HasUnreadHoles c (l ∷ ls) r
 
   -- so have the arguments from argument i on, where the result has the sequences seqs
   pub data HaveUnreadHoles (c : Concrete) : List (List Sym) → List ℕ → ℕ → List Run → Type 0 where
-    none : {seqs : List (List Sym)} {ls : List ℕ} {i : ℕ} → HaveUnreadHoles c seqs ls i []
-    more : {seqs : List (List Sym)} {ls : List ℕ} {i : ℕ} {r : Run} {rs : List Run}
-        → HasUnreadHoles c (needed seqs ls i) r
-        → HaveUnreadHoles c seqs ls (suc i) rs → HaveUnreadHoles c seqs ls i (r ∷ rs)
+    none : {seqs ls i : _} → HaveUnreadHoles c seqs ls i []
+    more : {seqs ls i r rs : _} → HasUnreadHoles c (needed seqs ls i) r → HaveUnreadHoles c seqs ls (suc i) rs →
+        HaveUnreadHoles c seqs ls i (r ∷ rs)
 
 -- the nonterminals of the holes of a run
 abbrev pub holes_step : Run-F (List ℕ) → List ℕ

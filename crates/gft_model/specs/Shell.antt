@@ -40,18 +40,17 @@ replying after lines =
 -- what the state lacks for a command: a grammar, any language, or the language or category that it names
 pub data Lacks (state : State) (c : Command) : Refusal → Type 0 where
   no_grammar : state ≡ None → c.verb ≢ Import → c.verb ≢ Empty → c.verb ≢ Quit → Lacks state c (refusal NoGrammar [])
-  no_language : {g : Loaded} → state ≡ Some g → g.languages ≡ [] → Contains (keys_of c.verb) (codes "-lang=")
-      → Lacks state c (refusal NoLanguage [])
-  no_such_language : {g : Loaded} {name : List ℕ} → state ≡ Some g → g.languages ≢ [] → c.lang ≡ Some name
-      → languages_for g.languages c.lang ≡ [] → Lacks state c (refusal NoSuchLanguage (name ∷ []))
-  no_such_category : {g : Loaded} {name : List ℕ} → state ≡ Some g → languages_for g.languages c.lang ≢ []
-      → c.cat ≡ Some name → category_for g.abs c.cat ≡ None → Lacks state c (refusal NoSuchCategory (name ∷ []))
+  no_language : {g : Loaded} → state ≡ Some g → g.languages ≡ [] → Contains (keys_of c.verb) (codes "-lang=") →
+      Lacks state c (refusal NoLanguage [])
+  no_such_language : {g : Loaded} {name : _} → state ≡ Some g → g.languages ≢ [] → c.lang ≡ Some name →
+      languages_for g.languages c.lang ≡ [] → Lacks state c (refusal NoSuchLanguage (name ∷ []))
+  no_such_category : {g : Loaded} {name : _} → state ≡ Some g → languages_for g.languages c.lang ≢ [] → c.cat ≡ Some name →
+      category_for g.abs c.cat ≡ None → Lacks state c (refusal NoSuchCategory (name ∷ []))
 
 -- the first that the commands lack, from left to right
 pub data LacksFirst (state : State) : List Command → Refusal → Type 0 where
-  here : {c : Command} {cs : List Command} {r : Refusal} → Lacks state c r → LacksFirst state (c ∷ cs) r
-  later : {c : Command} {cs : List Command} {r : Refusal} → ((s : Refusal) → ¬ Lacks state c s) → LacksFirst state cs r
-      → LacksFirst state (c ∷ cs) r
+  here : {c cs r : _} → Lacks state c r → LacksFirst state (c ∷ cs) r
+  later : {c cs r : _} → ((s : Refusal) → ¬ Lacks state c s) → LacksFirst state cs r → LacksFirst state (c ∷ cs) r
 
 -- the commands are one with this argument
 pub record IsAlone (cs : List Command) (verb : Verb) (argument : Argument) : Type 0 where
@@ -89,60 +88,53 @@ module _ (S : Sources) where
 
   -- what the commands of a pipe do, where the state lacks nothing for them
   pub data Does (held : Held) (cs : List Command) : Answer → Type 0 where
-    imports : {names : List (List ℕ)} {new joined : Loaded} → IsAlone cs Import (argument.Files names)
-        → IsImported S held.files names new → Joins held.state new joined
-        → Does held cs (replying (record held { state = Some joined }) (grammar_line joined ∷ []))
-    import_refused : {names loaded : List (List ℕ)} {r : Refusal} → IsAlone cs Import (argument.Files names)
-        → S.refuses held.files names r loaded → Does held cs (refusing held r loaded)
+    imports : {names new joined : _} → IsAlone cs Import (argument.Files names) → IsImported S held.files names new →
+        Joins held.state new joined → Does held cs (replying (record held { state = Some joined }) (grammar_line joined ∷ []))
+    import_refused : {names loaded r : _} → IsAlone cs Import (argument.Files names) → S.refuses held.files names r loaded →
+        Does held cs (refusing held r loaded)
     empties : IsAlone cs Empty Nothing → Does held cs (replying (record held { state = None }) [])
     quits : IsAlone cs Quit Nothing → Does held cs (record { reply = []; refused = false; ends = true; after = held })
-    informs : {g : Loaded} → IsAlone cs AbstractInfo Nothing → held.state ≡ Some g
-        → Does held cs (replying held (judgement_lines g.abs (λ name. true)))
-    informs_of : {g : Loaded} {name : List ℕ} → IsAlone cs AbstractInfo (Name name) → held.state ≡ Some g
-        → judgement_lines g.abs (bytes_eq name) ≢ [] → Does held cs (replying held (judgement_lines g.abs (bytes_eq name)))
-    unknown_name : {g : Loaded} {name : List ℕ} → IsAlone cs AbstractInfo (Name name) → held.state ≡ Some g
-        → judgement_lines g.abs (bytes_eq name) ≡ [] → Does held cs (refusing held (refusal UnknownName (name ∷ [])) [])
-    writes : {file bytes : List ℕ} → IsAlone cs WritePortable (argument.Files (file ∷ [])) → IsFileOf held.state bytes
-        → length bytes ≤ portable_limit
-        → Does held cs (replying (record held { files = insert held.files file bytes }) (wrote_line file (length bytes) ∷ []))
-    portable_too_long : {file bytes : List ℕ} → IsAlone cs WritePortable (argument.Files (file ∷ []))
-        → IsFileOf held.state bytes → portable_limit < length bytes
-        → Does held cs (refusing held (refusal PortableTooLong (file ∷ [])) [])
-    runs : {g : Loaded} {c : Command} {others : List Command} {item : Item} {items : List Item} → held.state ≡ Some g
-        → cs ≡ c ∷ others → item_of c.argument ≡ Some item → Runs g cs (item ∷ []) (Ok items)
-        → Does held cs (replying held (map line_of items))
-    run_refused : {g : Loaded} {c : Command} {others : List Command} {item : Item} {r : Refusal} → held.state ≡ Some g
-        → cs ≡ c ∷ others → item_of c.argument ≡ Some item → Runs g cs (item ∷ []) (Err r)
-        → Does held cs (refusing held r [])
+    informs : {g : Loaded} → IsAlone cs AbstractInfo Nothing → held.state ≡ Some g →
+        Does held cs (replying held (judgement_lines g.abs (λ name. true)))
+    informs_of : {g : Loaded} {name : _} → IsAlone cs AbstractInfo (Name name) → held.state ≡ Some g →
+        judgement_lines g.abs (bytes_eq name) ≢ [] → Does held cs (replying held (judgement_lines g.abs (bytes_eq name)))
+    unknown_name : {g : Loaded} {name : _} → IsAlone cs AbstractInfo (Name name) → held.state ≡ Some g →
+        judgement_lines g.abs (bytes_eq name) ≡ [] → Does held cs (refusing held (refusal UnknownName (name ∷ [])) [])
+    writes : {file bytes : _} → IsAlone cs WritePortable (argument.Files (file ∷ [])) → IsFileOf held.state bytes →
+        length bytes ≤ portable_limit →
+        Does held cs (replying (record held { files = insert held.files file bytes }) (wrote_line file (length bytes) ∷ []))
+    portable_too_long : {file bytes : _} → IsAlone cs WritePortable (argument.Files (file ∷ [])) → IsFileOf held.state bytes →
+        portable_limit < length bytes → Does held cs (refusing held (refusal PortableTooLong (file ∷ [])) [])
+    runs : {g : _} {c : Command} {others item items : _} → held.state ≡ Some g → cs ≡ c ∷ others →
+        item_of c.argument ≡ Some item → Runs g cs (item ∷ []) (Ok items) → Does held cs (replying held (map line_of items))
+    run_refused : {g : _} {c : Command} {others item r : _} → held.state ≡ Some g → cs ≡ c ∷ others →
+        item_of c.argument ≡ Some item → Runs g cs (item ∷ []) (Err r) → Does held cs (refusing held r [])
 
   -- what a pipe answers, and how many of its loads and saves failed: none, or the one that it came to; after a save
   -- that failed the content of its file is open
   pub data PipeSteps (held : Held) : Read → ℕ → Answer → Type 0 where
-    refused : {r : Refusal} → PipeSteps held (Refused r) 0 (refusing held r [])
-    lacking : {cs : List Command} {r : Refusal} → LacksFirst held.state cs r → PipeSteps held (Pipe cs) 0 (refusing held r [])
-    done : {cs : List Command} {a : Answer} → ((r : Refusal) → ¬ LacksFirst held.state cs r) → Does held cs a
-        → PipeSteps held (Pipe cs) 0 a
-    load_failed : {cs : List Command} {names : List (List ℕ)} {file : List ℕ} → IsAlone cs Import (argument.Files names)
-        → S.loads held.files names file → PipeSteps held (Pipe cs) 1 (refusing held (refusal CannotRead (file ∷ [])) [])
-    save_failed : {cs : List Command} {file bytes : List ℕ} {left : Files}
-        → IsAlone cs WritePortable (argument.Files (file ∷ [])) → IsFileOf held.state bytes → length bytes ≤ portable_limit
-        → KeepsOthers file held.files left
-        → PipeSteps held (Pipe cs) 1 (refusing (record held { files = left }) (refusal CannotWrite (file ∷ [])) [])
+    refused : {r : _} → PipeSteps held (Refused r) 0 (refusing held r [])
+    lacking : {cs r : _} → LacksFirst held.state cs r → PipeSteps held (Pipe cs) 0 (refusing held r [])
+    done : {cs a : _} → ((r : Refusal) → ¬ LacksFirst held.state cs r) → Does held cs a → PipeSteps held (Pipe cs) 0 a
+    load_failed : {cs names file : _} → IsAlone cs Import (argument.Files names) → S.loads held.files names file →
+        PipeSteps held (Pipe cs) 1 (refusing held (refusal CannotRead (file ∷ [])) [])
+    save_failed : {cs file bytes left : _} → IsAlone cs WritePortable (argument.Files (file ∷ [])) → IsFileOf held.state bytes →
+        length bytes ≤ portable_limit → KeepsOthers file held.files left →
+        PipeSteps held (Pipe cs) 1 (refusing (record held { files = left }) (refusal CannotWrite (file ∷ [])) [])
 
   -- the pipes run in order, none after one that ends the session
   pub data AllSteps : Held → List Read → ℕ → Answer → Type 0 where
-    none : {held : Held} → AllSteps held [] 0 (replying held [])
-    last : {held : Held} {read : Read} {reads : List Read} {n : ℕ} {a : Answer} → PipeSteps held read n a → a.ends ≡ true
-        → AllSteps held (read ∷ reads) n a
-    more : {held : Held} {read : Read} {reads : List Read} {n m : ℕ} {a b : Answer} → PipeSteps held read n a
-        → a.ends ≡ false → AllSteps a.after reads m b → AllSteps held (read ∷ reads) (n + m) (followed a b)
+    none : {held : _} → AllSteps held [] 0 (replying held [])
+    last : {held read reads n : _} {a : Answer} → PipeSteps held read n a → a.ends ≡ true → AllSteps held (read ∷ reads) n a
+    more : {held read reads n m : _} {a : Answer} {b : _} → PipeSteps held read n a → a.ends ≡ false →
+        AllSteps a.after reads m b → AllSteps held (read ∷ reads) (n + m) (followed a b)
 
   -- what a session answers to a line of bytes, where so many loads and saves failed
   pub data Steps (held : Held) (line : List ℕ) : ℕ → Answer → Type 0 where
     too_long : line_limit < length line → Steps held line 0 (refusing held (refusal LineTooLong []) [])
     not_utf8 : length line ≤ line_limit → ¬ IsUtf8 line → Steps held line 0 (refusing held (refusal LineNotUtf8 []) [])
-    read : {reads : List Read} {n : ℕ} {a : Answer} → length line ≤ line_limit → IsUtf8 line → ReadsLine (chars line) reads
-        → AllSteps held reads n a → Steps held line n a
+    read : {reads n a : _} → length line ≤ line_limit → IsUtf8 line → ReadsLine (chars line) reads → AllSteps held reads n a →
+        Steps held line n a
 
   -- what it answers where none failed
   abbrev pub IsAnswer : Held → List ℕ → Answer → Type 0

@@ -18,18 +18,16 @@ categories_of f = map (λ (t : AType). t.cat) f.args
 mutual
   -- the tree has the category, its holes having the categories K
   pub data HasSkeletonType (a : Abstract) (K : HoleCategories) : Tree → ℕ → Type 0 where
-    hole : {t : Tree} {k c : ℕ} → IsHole t k → k < 2 ^ 32 → Contains K (k, c) → HasSkeletonType a K t c
-    integer : {t : Tree} {n : ℕ} → IsInteger t n → n < 2 ^ 128 → HasSkeletonType a K t 0
-    text : {t : Tree} {w : List ℕ} → IsString t w → IsWord w → HasSkeletonType a K t 1
-    application : {t : Tree} {f : Fun} {ts : List Tree} → Contains a.funs f → IsApplication t f.name ts
-        → HaveSkeletonTypes a K ts (categories_of f) → HasSkeletonType a K t f.result.cat
+    hole : {t k c : _} → IsHole t k → k < 2 ^ 32 → Contains K (k, c) → HasSkeletonType a K t c
+    integer : {t n : _} → IsInteger t n → n < 2 ^ 128 → HasSkeletonType a K t 0
+    text : {t w : _} → IsString t w → IsWord w → HasSkeletonType a K t 1
+    application : {t : _} {f : Fun} {ts : _} → Contains a.funs f → IsApplication t f.name ts →
+        HaveSkeletonTypes a K ts (categories_of f) → HasSkeletonType a K t f.result.cat
 
   -- so do the trees, one category each
   pub data HaveSkeletonTypes (a : Abstract) (K : HoleCategories) : List Tree → List ℕ → Type 0 where
     none : HaveSkeletonTypes a K [] []
-    more : {t : Tree} {ts : List Tree} {c : ℕ} {cs : List ℕ} → HasSkeletonType a K t c
-        → HaveSkeletonTypes a K ts cs
-        → HaveSkeletonTypes a K (t ∷ ts) (c ∷ cs)
+    more : {t ts c cs : _} → HasSkeletonType a K t c → HaveSkeletonTypes a K ts cs → HaveSkeletonTypes a K (t ∷ ts) (c ∷ cs)
 
 -- each hole has one category
 abbrev pub AreSingle : HoleCategories → Type 0

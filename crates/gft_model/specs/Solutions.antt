@@ -38,13 +38,9 @@ last_hole last (k ∷ ks) = if nat_lt last k then last_hole k ks else last_hole 
 pub data HasSolvedTypes (a : Abstract) (cat : ℕ) (solution : Tree) : AType → List AType → Type 0 where
   -- one hole has its category, with a further hole for each index, numbered after it in the order of the
   -- context
-  hole : {k : ℕ} {category : Cat} → IsHole solution k → slice_get a.cats cat ≡ Some category
-      → HasSolvedTypes a cat solution
-      (record { cat = cat; args = holes_from 2 (length category.context) })
-      (record { cat = cat; args = holes_from 2 (length category.context) }
-      ∷ map (type_at (holes_from 2 (length category.context))) category.context)
+  hole : {k : _} {category : Cat} → IsHole solution k → slice_get a.cats cat ≡ Some category →
+      HasSolvedTypes a cat solution (record { cat = cat; args = holes_from 2 (length category.context) }) (record { cat = cat; args = holes_from 2 (length category.context) } ∷ map (type_at (holes_from 2 (length category.context))) category.context)
   -- another tree has the type that its own holes give
-  other : {type : AType} {types : List AType} → ((k : ℕ) → ¬ IsHole solution k)
-      → length types ≡ last_hole 0 (holes_of solution)
-      → IsAdmitted a (numbered_from 1 types) → HasType a (numbered_from 1 types) solution type
-      → HasSolvedTypes a cat solution type types
+  other : {type types : _} → ((k : ℕ) → ¬ IsHole solution k) → length types ≡ last_hole 0 (holes_of solution) →
+      IsAdmitted a (numbered_from 1 types) → HasType a (numbered_from 1 types) solution type →
+      HasSolvedTypes a cat solution type types

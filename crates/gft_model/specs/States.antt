@@ -71,9 +71,9 @@ kept_grammar g = record { abs = g.abs; languages = map (λ (c : Concrete). (c.na
 
 -- what a named file gives in an import
 pub data Gives (S : Sources) (files : Files) (names : List (List ℕ)) (name : List ℕ) : Loaded → Type 0 where
-  source : {part : Loaded} → EndsIn source_ending name → S.gives files names name part → Gives S files names name part
-  portable : {bytes : List ℕ} (g : Grammar) → EndsIn portable_ending name → get files name ≡ Some bytes → Reads bytes g
-      → Gives S files names name (kept_grammar g)
+  source : {part : _} → EndsIn source_ending name → S.gives files names name part → Gives S files names name part
+  portable : {bytes : _} (g : Grammar) → EndsIn portable_ending name → get files name ≡ Some bytes → Reads bytes g →
+      Gives S files names name (kept_grammar g)
 
 -- what an accepted import gives: the one abstract part of its files, and the languages of all, of which a later one
 -- stands in place of an earlier one of its name
@@ -87,19 +87,18 @@ pub record IsImported (S : Sources) (files : Files) (names : List (List ℕ)) (n
 
 -- what is held after an import: equal abstract parts keep the languages that were held
 pub data Joins : State → Loaded → Loaded → Type 0 where
-  first : {new : Loaded} → Joins None new new
-  equal : {held new : Loaded} → held.abs ≡ new.abs
-      → Joins (Some held) new (record { abs = new.abs; languages = added held.languages new.languages })
+  first : {new : _} → Joins None new new
+  equal : {held new : Loaded} → held.abs ≡ new.abs →
+      Joins (Some held) new (record { abs = new.abs; languages = added held.languages new.languages })
   other : {held new : Loaded} → held.abs ≢ new.abs → Joins (Some held) new new
 
 -- the compiled form of a language, of the same name
 pub data IsCompiled (S : Sources) (a : Abstract) : List ℕ × Kept → Concrete → Type 0 where
-  source : {name : List ℕ} {flat : Flat} {c : Concrete} → c.name ≡ name → S.compiles a flat name c
-      → IsCompiled S a (name, of_source flat) c
-  file : {name : List ℕ} {c : Concrete} → c.name ≡ name → IsCompiled S a (name, of_file c) c
+  source : {name flat : _} {c : Concrete} → c.name ≡ name → S.compiles a flat name c → IsCompiled S a (name, of_source flat) c
+  file : {name : _} {c : Concrete} → c.name ≡ name → IsCompiled S a (name, of_file c) c
 
 -- a session's compiled grammar, or none, stands for a state
 pub data StandsFor (S : Sources) : Option Grammar → State → Type 0 where
   empty : StandsFor S None None
-  loaded : {g : Grammar} {held : Loaded} → g.abs ≡ held.abs → AllZip (IsCompiled S held.abs) held.languages g.concretes
-      → StandsFor S (Some g) (Some held)
+  loaded : {g : Grammar} {held : Loaded} → g.abs ≡ held.abs → AllZip (IsCompiled S held.abs) held.languages g.concretes →
+      StandsFor S (Some g) (Some held)

@@ -24,11 +24,11 @@ use Rattle.gft_model.specs.TermParts.{judgement_parts, height}
 
 -- the text by which a refusal names a token
 pub data IsSpelled : TokenForm → List ℕ → Type 0 where
-  identifier : {x : List ℕ} → IsSpelled (Identifier x) x
-  reserved : {w : Word} {s : List ℕ} → spelled_in reserved_words s ≡ Some w → IsSpelled (Reserved w) s
-  number : {n : ℕ} {s : List ℕ} → IsSpelled (Number n s) s
-  quoted : {text s : List ℕ} → IsSpelled (Quoted text s) s
-  symbol : {g : Sign} {s : List ℕ} → spelled_in symbols s ≡ Some g → IsSpelled (Symbol g) s
+  identifier : {x : _} → IsSpelled (Identifier x) x
+  reserved : {w s : _} → spelled_in reserved_words s ≡ Some w → IsSpelled (Reserved w) s
+  number : {n s : _} → IsSpelled (Number n s) s
+  quoted : {text s : _} → IsSpelled (Quoted text s) s
+  symbol : {g s : _} → spelled_in symbols s ≡ Some g → IsSpelled (Symbol g) s
 
 -- the words that are reserved and out of the profile
 abbrev pub outside_words : List (List ℕ)
@@ -78,8 +78,8 @@ NoBody ts = list_any (λ t. is_left_brace t.form) ts ≡ false
 
 -- the slices of a body that the file ends in are those that further braces would give it
 pub data Cut : Tokens → List Tokens → Option Tokens → Type 0 where
-  closed_body : {ts rest : Tokens} {ss : List Tokens} → slices_of ts ≡ Some (ss, rest) → Cut ts ss (Some rest)
-  open_body : {ts : Tokens} (held braces : Tokens) (b : SourceToken) (ss : List Tokens) → slices_of ts ≡ None →
+  closed_body : {ts rest ss : _} → slices_of ts ≡ Some (ss, rest) → Cut ts ss (Some rest)
+  open_body : {ts : _} (held braces : Tokens) (b : SourceToken) (ss : List Tokens) → slices_of ts ≡ None →
       list_all (λ t. is_right_brace t.form) (braces ++ b ∷ []) ≡ true →
       slices_of (ts ++ braces ++ b ∷ []) ≡ Some (ss ++ (held ++ braces) ∷ [], []) → Cut ts (ss ++ held ∷ []) None
 
@@ -92,28 +92,24 @@ pub record OpensBody (ts held : Tokens) (brace : SourceToken) (body : Tokens) : 
 -- the slice of that number, from 0, of a file's tokens
 pub data HasSlice (ts : Tokens) : ℕ → SliceKind → Tokens → Type 0 where
   no_body : NoBody ts → HasSlice ts 0 whole_file ts
-  before_body : {held body : Tokens} {l : SourceToken} → OpensBody ts held l body → HasSlice ts 0 (header l) held
-  in_closed_body : {held body s rest : Tokens} {l : SourceToken} (before after : List Tokens) →
-      OpensBody ts held l body → Cut body (before ++ s ∷ after) (Some rest) →
-      HasSlice ts (suc (length before)) (ended (keyword_after None before)) s
-  in_open_body : (held body s u : Tokens) {l : SourceToken} (before after : List Tokens) →
-      OpensBody ts held l body → Cut body (before ++ s ∷ u ∷ after) None →
-      HasSlice ts (suc (length before)) (ended (keyword_after None before)) s
-  at_end_of_file : {held body s : Tokens} {l : SourceToken} (before : List Tokens) →
-      OpensBody ts held l body → Cut body (before ++ s ∷ []) None →
+  before_body : {held body l : _} → OpensBody ts held l body → HasSlice ts 0 (header l) held
+  in_closed_body : {held body s rest l : _} (before after : List Tokens) → OpensBody ts held l body →
+      Cut body (before ++ s ∷ after) (Some rest) → HasSlice ts (suc (length before)) (ended (keyword_after None before)) s
+  in_open_body : (held body s u : Tokens) {l : _} (before after : List Tokens) → OpensBody ts held l body →
+      Cut body (before ++ s ∷ u ∷ after) None → HasSlice ts (suc (length before)) (ended (keyword_after None before)) s
+  at_end_of_file : {held body s l : _} (before : List Tokens) → OpensBody ts held l body → Cut body (before ++ s ∷ []) None →
       HasSlice ts (suc (length before)) (unended (keyword_after None before)) s
-  after_body : {held body rest : Tokens} {l : SourceToken} {ss : List Tokens} →
-      OpensBody ts held l body → Cut body ss (Some rest) → HasSlice ts (suc (length ss)) following rest
+  after_body : {held body rest l ss : _} → OpensBody ts held l body → Cut body ss (Some rest) →
+      HasSlice ts (suc (length ss)) following rest
 
 -- the slice is in the grammar; a header is where an empty body makes a module of it
 pub data IsDerivable : SliceKind → Tokens → Type 0 where
-  a_file : {ts : Tokens} {m : Module} → SpellsModule ts m → IsDerivable whole_file ts
-  a_header : {l : SourceToken} (r : SourceToken) {ts : Tokens} {m : Module} →
-      Is S.RightBrace r → SpellsModule (ts ++ l ∷ r ∷ []) m → IsDerivable (header l) ts
-  nothing : {before : Option Keyword} → IsDerivable (ended before) []
-  a_judgement : {before : Option Keyword} {ts : Tokens} {k : Keyword} {j : Judgement} →
-      SpellsSlice before ts k j → IsDerivable (ended before) ts
-  an_end : {ts : Tokens} → AtEnd ts → IsDerivable following ts
+  a_file : {ts m : _} → SpellsModule ts m → IsDerivable whole_file ts
+  a_header : {l : _} (r : SourceToken) {ts m : _} → Is S.RightBrace r → SpellsModule (ts ++ l ∷ r ∷ []) m →
+      IsDerivable (header l) ts
+  nothing : {before : _} → IsDerivable (ended before) []
+  a_judgement : {before ts k j : _} → SpellsSlice before ts k j → IsDerivable (ended before) ts
+  an_end : {ts : _} → AtEnd ts → IsDerivable following ts
 
 -- the tokens of a slice of which a refusal names the first
 abbrev pub shown : SliceKind → Tokens → Tokens
@@ -151,24 +147,21 @@ most_height = 1000
 -- what is broken in a file's slices. A question mark is a pattern of the tightest level and nothing
 -- else, so where it may stand after the tokens before a minus, that minus is in a pattern
 pub data BreaksSyntax (file : ℕ) (ts : Tokens) : Moment → Refusal → Type 0 where
-  out_of_profile : {n : ℕ} {kind : SliceKind} {s : Tokens} {t : SourceToken} {w : Word} {x : List ℕ} →
-      HasSlice ts n kind s → Contains s t → IsReserved w t → IsSpelled (Reserved w) x → Contains outside_words x →
+  out_of_profile : {n kind s : _} {t : SourceToken} {w x : _} → HasSlice ts n kind s → Contains s t → IsReserved w t →
+      IsSpelled (Reserved w) x → Contains outside_words x →
       BreaksSyntax file ts (n ∷ 0 ∷ place_moment t.place) (refusal R.OutOfProfile t.place (x ∷ []))
-  negated_pattern : {n : ℕ} {kind : SliceKind} {before : Option Keyword} (s held rest more : Tokens) (t q : SourceToken) →
-      HasSlice ts n kind s → body_keyword kind ≡ Some before → s ≡ held ++ t ∷ rest → Is S.Minus t → Is S.Question q →
+  negated_pattern : {n kind before : _} (s held rest more : Tokens) (t q : SourceToken) → HasSlice ts n kind s →
+      body_keyword kind ≡ Some before → s ≡ held ++ t ∷ rest → Is S.Minus t → Is S.Question q →
       IsDerivable (ended before) (held ++ q ∷ more) →
       BreaksSyntax file ts (n ∷ 0 ∷ place_moment t.place) (refusal R.OutOfProfile t.place (codes "negated pattern" ∷ []))
-  too_many_brackets : {n : ℕ} {kind : SliceKind} (s held rest : Tokens) (t : SourceToken) →
-      HasSlice ts n kind s → s ≡ held ++ t ∷ rest → mark_of t.form ≡ opening → open_after 0 held ≡ most_open →
+  too_many_brackets : {n kind : _} (s held rest : Tokens) (t : SourceToken) → HasSlice ts n kind s → s ≡ held ++ t ∷ rest →
+      mark_of t.form ≡ opening → open_after 0 held ≡ most_open →
       BreaksSyntax file ts (n ∷ 1 ∷ place_moment t.place) (refusal R.TooDeep t.place [])
-  too_high : {n : ℕ} {kind : SliceKind} {before : Option Keyword} {s : Tokens} {k : Keyword} {j : Judgement} {e : Term} →
-      HasSlice ts n kind s → body_keyword kind ≡ Some before → SpellsSlice before s k j →
+  too_high : {n kind before s k j e : _} → HasSlice ts n kind s → body_keyword kind ≡ Some before → SpellsSlice before s k j →
       Contains (map (λ p. p.part) (judgement_parts j)) e → most_height < height e →
       BreaksSyntax file ts (n ∷ 2 ∷ place_moment (place_of e)) (refusal R.TooDeep (place_of e) [])
-  not_in_grammar : {n : ℕ} {kind : SliceKind} {s us : Tokens} {t : SourceToken} {x : List ℕ} →
-      HasSlice ts n kind s → ¬ (IsDerivable kind s) → shown kind s ≡ t ∷ us → IsSpelled t.form x →
-      BreaksSyntax file ts (n ∷ 3 ∷ []) (refusal R.Syntax t.place (x ∷ []))
-  ends_early : {n : ℕ} {before : Option Keyword} (s held : Tokens) (t : SourceToken) →
-      HasSlice ts n (unended before) s → ts ≡ held ++ t ∷ [] →
+  not_in_grammar : {n kind s us : _} {t : SourceToken} {x : _} → HasSlice ts n kind s → ¬ (IsDerivable kind s) →
+      shown kind s ≡ t ∷ us → IsSpelled t.form x → BreaksSyntax file ts (n ∷ 3 ∷ []) (refusal R.Syntax t.place (x ∷ []))
+  ends_early : {n before : _} (s held : Tokens) (t : SourceToken) → HasSlice ts n (unended before) s → ts ≡ held ++ t ∷ [] →
       BreaksSyntax file ts (n ∷ 3 ∷ []) (refusal R.Syntax t.place (codes "end" ∷ []))
   no_tokens : ts ≡ [] → BreaksSyntax file ts (0 ∷ 3 ∷ []) (refusal R.Syntax (first_place file) (codes "end" ∷ []))

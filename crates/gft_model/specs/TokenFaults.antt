@@ -35,8 +35,8 @@ length_of nothing = None
 -- white space, a comment or a token may begin at the place, and these characters are there
 pub data Begins (file : ℕ) (text : List ℕ) : Place → List ℕ → Type 0 where
   at_start : Begins file text (first_place file) text
-  after_lexeme : {p : Place} {cs : List ℕ} {n : ℕ} →
-      Begins file text p cs → length_of (lexeme_at cs) ≡ Some n → Begins file text (moved n p cs) (drop n cs)
+  after_lexeme : {p cs n : _} → Begins file text p cs → length_of (lexeme_at cs) ≡ Some n →
+      Begins file text (moved n p cs) (drop n cs)
 
 -- whether a text after its opening quote is closed on its line; a backslash goes with what is after it
 abbrev mutual
@@ -63,16 +63,14 @@ escapes_from p (c ∷ d ∷ cs) =
 pub data BreaksTokens (file : ℕ) (bytes : List ℕ) : Refusal → Type 0 where
   not_utf8 : (before rest : List ℕ) (c : ℕ) → text_of bytes ≡ before ++ c ∷ rest → no_character ≤ c →
       BreaksTokens file bytes (refusal R.NotUtf8 (moved (length before) (first_place file) (text_of bytes)) [])
-  bad_character : {p : Place} {c : ℕ} {cs : List ℕ} → Begins file (text_of bytes) p (c ∷ cs) →
-      longest (c ∷ cs) ≡ None → is_whitespace c ≡ false → c ≢ 34 → c < no_character →
-      BreaksTokens file bytes (refusal R.BadCharacter p (encode_utf8_all (c ∷ []) ∷ []))
-  open_string : {p : Place} {cs : List ℕ} → Begins file (text_of bytes) p (34 ∷ cs) → is_closed cs ≡ false →
+  bad_character : {p c cs : _} → Begins file (text_of bytes) p (c ∷ cs) → longest (c ∷ cs) ≡ None → is_whitespace c ≡ false →
+      c ≢ 34 → c < no_character → BreaksTokens file bytes (refusal R.BadCharacter p (encode_utf8_all (c ∷ []) ∷ []))
+  open_string : {p cs : _} → Begins file (text_of bytes) p (34 ∷ cs) → is_closed cs ≡ false →
       BreaksTokens file bytes (refusal R.OpenString p [])
-  bad_escape : {p q : Place} {c : ℕ} {cs : List ℕ} → Begins file (text_of bytes) p (34 ∷ cs) → is_closed cs ≡ true →
+  bad_escape : {p q c cs : _} → Begins file (text_of bytes) p (34 ∷ cs) → is_closed cs ≡ true →
       Contains (escapes_from (after 34 p) cs) (q, c) → escaped c ≡ None → c < no_character →
       BreaksTokens file bytes (refusal R.BadEscape q (encode_utf8_all (c ∷ []) ∷ []))
-  open_comment : {p : Place} {cs : List ℕ} → Begins file (text_of bytes) p (123 ∷ 45 ∷ cs) → block_length cs ≡ None →
+  open_comment : {p cs : _} → Begins file (text_of bytes) p (123 ∷ 45 ∷ cs) → block_length cs ≡ None →
       BreaksTokens file bytes (refusal R.OpenComment p [])
-  number_too_large : {p : Place} {n k : ℕ} {cs s : List ℕ} → Begins file (text_of bytes) p cs →
-      lexeme_at cs ≡ token (Number n s) k → 2 ^ 128 ≤ n →
+  number_too_large : {p n k cs s : _} → Begins file (text_of bytes) p cs → lexeme_at cs ≡ token (Number n s) k → 2 ^ 128 ≤ n →
       BreaksTokens file bytes (refusal R.NumberTooLarge p [])

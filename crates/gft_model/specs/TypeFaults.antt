@@ -130,29 +130,28 @@ cycle_rule j = None
 
 -- the type that a term is given
 pub data Given : Mode → CType → Type 0 where
-  a_type : {A : CType} → Given (given A) A
-  its_own : {A U : CType} → Given (given_own A U) A
-  a_sort : {S : CType} → Given (as_type S) S
+  a_type : {A : _} → Given (given A) A
+  its_own : {A U : _} → Given (given_own A U) A
+  a_sort : {S : _} → Given (as_type S) S
 
 -- a table with its type written
 pub data WritesDomain (e : Term) : Term → Type 0 where
-  with_branches : {t : Term} {cs : List (Case Term)} {p : Place} → form e ≡ T.TableOf (Some t) cs p → WritesDomain e t
-  with_items : {t : Term} {es : List Term} {p : Place} → form e ≡ T.TableList t es p → WritesDomain e t
+  with_branches : {t cs p : _} → form e ≡ T.TableOf (Some t) cs p → WritesDomain e t
+  with_items : {t es p : _} → form e ≡ T.TableList t es p → WritesDomain e t
 
 -- the patterns of the branches of a table or a case
 pub data HasBranches (e : Term) : List Pattern → Type 0 where
-  of_table : {t : Option Term} {cs : List (Case Term)} {p : Place} → form e ≡ T.TableOf t cs p → HasBranches e (patterns cs)
-  of_case : {b : Term} {cs : List (Case Term)} {p : Place} → form e ≡ T.CaseOf b cs p → HasBranches e (patterns cs)
+  of_table : {t cs p : _} → form e ≡ T.TableOf t cs p → HasBranches e (patterns cs)
+  of_case : {b cs p : _} → form e ≡ T.CaseOf b cs p → HasBranches e (patterns cs)
 
 -- the first value of the type that the form leaves out
 abbrev pub is_covered : List Pattern → Param → Bool
 is_covered ps v = list_any (λ p. is_matched (match_of p (parameter v))) ps
 
 pub data LeavesOut (e : Term) (A : CType) : Param → Type 0 where
-  no_branch_for : {ps : List Pattern} (before after : List Param) {v : Param} → HasBranches e ps →
-      values_of A ≡ before ++ v ∷ after → list_all (is_covered ps) before ≡ true → is_covered ps v ≡ false → LeavesOut e A v
-  no_item_for : {t : Term} {es : List Term} {p : Place} {v : Param} → form e ≡ T.TableList t es p →
-      slice_get (values_of A) (length es) ≡ Some v → LeavesOut e A v
+  no_branch_for : {ps : _} (before after : List Param) {v : _} → HasBranches e ps → values_of A ≡ before ++ v ∷ after →
+      list_all (is_covered ps) before ≡ true → is_covered ps v ≡ false → LeavesOut e A v
+  no_item_for : {t es p v : _} → form e ≡ T.TableList t es p → slice_get (values_of A) (length es) ≡ Some v → LeavesOut e A v
 
 module _ (flat : Flat) where
   -- a name where a type must stand that no type was given to
@@ -163,156 +162,133 @@ module _ (flat : Flat) where
 
   -- what is broken at a term that must be a type of the sort
   pub data BreaksSort (Γ : Scope) (e : Term) (S : CType) : Rule → List (List ℕ) → Type 0 where
-    undefined_type : {v : Whole} {p : Place} → form e ≡ T.Var (WholeName v) p → IsUndefinedType v →
+    undefined_type : {v : Whole} {p : _} → form e ≡ T.Var (WholeName v) p → IsUndefinedType v →
         BreaksSort Γ e S R.Unknown (v.name ∷ [])
-    form_of_no_type : {t : LinTerm} → Checks (items flat) Γ e S t → may_be_type (form e) ≡ false → BreaksSort Γ e S R.NoType []
-    too_many_values : {A : CType} {v : Whole} {p : Place} → form e ≡ T.Var (WholeName v) p → IsParameter (items flat) v A →
-        most_values < count_of A → BreaksSort Γ e S R.ParamTooLarge (type_text A ∷ [])
+    form_of_no_type : {t : _} → Checks (items flat) Γ e S t → may_be_type (form e) ≡ false → BreaksSort Γ e S R.NoType []
+    too_many_values : {A v p : _} → form e ≡ T.Var (WholeName v) p → IsParameter (items flat) v A → most_values < count_of A →
+        BreaksSort Γ e S R.ParamTooLarge (type_text A ∷ [])
 
   -- what is broken at a term before its parts are looked at
   pub data BreaksEarly (e : Term) : Mode → Rule → List (List ℕ) → Type 0 where
     no_type_given : needs_type (form e) ≡ true → BreaksEarly e found R.NoType []
-    lambda_is_no_function : {Γ Δ : Scope} {b : Term} {m : Mode} {x : Bind} {xs ys : List Bind} {p : Place} {F A : CType} →
-        form e ≡ T.Fun xs b p → Given m F → Binds function_in Γ xs F Δ (x ∷ ys) A → function_in (out-CType A) ≡ None →
+    lambda_is_no_function : {Γ Δ b m x xs ys p F A : _} → form e ≡ T.Fun xs b p → Given m F →
+        Binds function_in Γ xs F Δ (x ∷ ys) A → function_in (out-CType A) ≡ None →
         BreaksEarly e m R.NotFunction (type_text A ∷ [])
-    lambda_is_no_table : {Γ Δ : Scope} {b : Term} {m : Mode} {x : Bind} {xs ys : List Bind} {p : Place} {F A : CType} →
-        form e ≡ T.TabFun xs b p → Given m F → Binds table_in Γ xs F Δ (x ∷ ys) A → table_in (out-CType A) ≡ None →
-        BreaksEarly e m R.NotTable (type_text A ∷ [])
-    table_is_no_table : {m : Mode} {cs : List (Case Term)} {p : Place} {F : CType} → form e ≡ T.TableOf None cs p → Given m F →
-        table_in (out-CType F) ≡ None → BreaksEarly e m R.NotTable (type_text F ∷ [])
+    lambda_is_no_table : {Γ Δ b m x xs ys p F A : _} → form e ≡ T.TabFun xs b p → Given m F → Binds table_in Γ xs F Δ (x ∷ ys) A →
+        table_in (out-CType A) ≡ None → BreaksEarly e m R.NotTable (type_text A ∷ [])
+    table_is_no_table : {m cs p F : _} → form e ≡ T.TableOf None cs p → Given m F → table_in (out-CType F) ≡ None →
+        BreaksEarly e m R.NotTable (type_text F ∷ [])
 
   module _ (Γ : Scope) (e : Term) (m : Mode) (r : Role) where
     -- the type that a term has in its mode
     pub data Has : CType → Type 0 where
-      has_found : {A : CType} → m ≡ found → FoundFor flat e Γ A → Has A
-      has_given : {A : CType} → m ≡ given A → Has A
-      is_written : {S A : CType} → m ≡ as_type S → IsType (items flat) e A → Has A
+      has_found : {A : _} → m ≡ found → FoundFor flat e Γ A → Has A
+      has_given : {A : _} → m ≡ given A → Has A
+      is_written : {S A : _} → m ≡ as_type S → IsType (items flat) e A → Has A
 
     -- what a table or case is over, and whether it may be over texts
     pub data IsOver : CType → Bool → Type 0 where
-      over_written : {t : Term} {A : CType} → WritesDomain e t → IsType (items flat) t A → IsOver A (is_selected r)
-      over_given : {cs : List (Case Term)} {p : Place} {F A V : CType} → form e ≡ T.TableOf None cs p → Given m F →
-          table_in (out-CType F) ≡ Some (A, V) → IsOver A false
-      over_selector : {cs : List (Case Term)} {p : Place} {A : CType} → form e ≡ T.TableOf None cs p → m ≡ over A → IsOver A true
-      over_case : {b : Term} {cs : List (Case Term)} {p : Place} {A : CType} → form e ≡ T.CaseOf b cs p →
-          FoundFor flat b Γ A → IsOver A true
+      over_written : {t A : _} → WritesDomain e t → IsType (items flat) t A → IsOver A (is_selected r)
+      over_given : {cs p F A V : _} → form e ≡ T.TableOf None cs p → Given m F → table_in (out-CType F) ≡ Some (A, V) →
+          IsOver A false
+      over_selector : {cs p A : _} → form e ≡ T.TableOf None cs p → m ≡ over A → IsOver A true
+      over_case : {b cs p A : _} → form e ≡ T.CaseOf b cs p → FoundFor flat b Γ A → IsOver A true
 
     -- what is broken at a term once its parts were looked at
     pub data BreaksTerm : Rule → List (List ℕ) → Type 0 where
-      undefined_parameter : {v : Whole} {p : Place} → form e ≡ T.Var (WholeName v) p → Contains (items flat) (bare_parameter v) →
+      undefined_parameter : {v : Whole} {p : _} → form e ≡ T.Var (WholeName v) p → Contains (items flat) (bare_parameter v) →
           BreaksTerm R.Unknown (v.name ∷ [])
       no_first_branch : empty_mode (form e) (term_mode m) ≡ Some found → BreaksTerm R.NoType []
-      found_does_not_fit : {A B : CType} → Given m A → passes (form e) (out-CType A) ≡ false → FoundFor flat e Γ B →
+      found_does_not_fit : {A B : _} → Given m A → passes (form e) (out-CType A) ≡ false → FoundFor flat e Γ B →
           ((t : LinTerm) → ¬ (Checks (items flat) Γ e A t)) → BreaksTerm R.Mismatch (type_text A ∷ type_text B ∷ [])
-      own_type_does_not_fit : {A U : CType} {t : LinTerm} → m ≡ given_own A U → Checks (items flat) Γ e A t →
+      own_type_does_not_fit : {A U t : _} → m ≡ given_own A U → Checks (items flat) Γ e A t →
           ((u v : LinTerm) → ¬ (Fits A U u v)) → BreaksTerm R.Mismatch (type_text U ∷ type_text A ∷ [])
-      table_over_another : {t : Term} {F A B V : CType} → Given m F → table_in (out-CType F) ≡ Some (A, V) → WritesDomain e t →
+      table_over_another : {t F A B V : _} → Given m F → table_in (out-CType F) ≡ Some (A, V) → WritesDomain e t →
           IsType (items flat) t B → B ≢ A → BreaksTerm R.Mismatch (type_text F ∷ type_text (table_type B V) ∷ [])
-      table_where_none_is_given : {t : Term} {F B : CType} → Given m F → table_in (out-CType F) ≡ None → WritesDomain e t →
+      table_where_none_is_given : {t F B : _} → Given m F → table_in (out-CType F) ≡ None → WritesDomain e t →
           FoundFor flat e Γ B → BreaksTerm R.Mismatch (type_text F ∷ type_text B ∷ [])
-      type_for_record : {ls : List (Local Term)} {p : Place} {A : CType} → Given m A → is_record (out-CType A) ≡ true →
-          form e ≡ T.Fields ls p →
+      type_for_record : {ls p A : _} → Given m A → is_record (out-CType A) ≡ true → form e ≡ T.Fields ls p →
           list_all is_value ls ≡ false → FoundFor flat e Γ sort_type →
           BreaksTerm R.Mismatch (type_text A ∷ type_text sort_type ∷ [])
-      projects_no_record : {a : Term} {x : List ℕ} {p : Place} {A : CType} → form e ≡ T.Proj a x p → FoundFor flat a Γ A →
-          is_record (out-CType A) ≡ false → BreaksTerm R.NotRecord (type_text A ∷ [])
-      projects_no_field : {a : Term} {x : List ℕ} {p : Place} {A : CType} → form e ≡ T.Proj a x p → FoundFor flat a Γ A →
-          is_record (out-CType A) ≡ true → field_of x (fields_in (out-CType A)) ≡ None → BreaksTerm R.NoField (x ∷ [])
-      extends_no_record : {a b : Term} {p : Place} {A B C : CType} → form e ≡ T.Extend a b p → FoundFor flat a Γ A →
-          FoundFor flat b Γ B →
+      projects_no_record : {a x p A : _} → form e ≡ T.Proj a x p → FoundFor flat a Γ A → is_record (out-CType A) ≡ false →
+          BreaksTerm R.NotRecord (type_text A ∷ [])
+      projects_no_field : {a x p A : _} → form e ≡ T.Proj a x p → FoundFor flat a Γ A → is_record (out-CType A) ≡ true →
+          field_of x (fields_in (out-CType A)) ≡ None → BreaksTerm R.NoField (x ∷ [])
+      extends_no_record : {a b p A B C : _} → form e ≡ T.Extend a b p → FoundFor flat a Γ A → FoundFor flat b Γ B →
           is_record (out-CType C) ≡ false → (C ≡ A) ⊎ ((C ≡ B) × (is_record (out-CType A) ≡ true)) →
           BreaksTerm R.NotRecord (type_text C ∷ [])
-      record_lacks : {A : CType} {ls : List (List ℕ)} {x : List ℕ} → Given m A → record_labels (form e) ≡ Some ls →
+      record_lacks : {A ls x : _} → Given m A → record_labels (form e) ≡ Some ls →
           first_absent ls (labels (fields_in (out-CType A))) ≡ Some x → BreaksTerm R.NoField (x ∷ [])
-      selects_from_no_table : {a b : Term} {p : Place} {A : CType} → form e ≡ T.Select a b p → FoundFor flat a Γ A →
-          table_in (out-CType A) ≡ None → BreaksTerm R.NotTable (type_text A ∷ [])
-      applies_no_function : {f a : Term} {p : Place} {A : CType} → m ≢ unasked → form e ≡ T.App f a p → ¬ (IsOverloaded flat f) →
-          FoundFor flat f Γ A → function_in (out-CType A) ≡ None → BreaksTerm R.NotFunction (type_text A ∷ [])
-      function_for_data : {F A B : CType} → (r ≡ data_wanted) ⊎ (r ≡ finite_wanted) → Has F →
-          function_in (out-CType F) ≡ Some (A, B) →
-          BreaksTerm R.FunctionHere []
-      argument_not_finite : {A : CType} → r ≡ finite_wanted → IsType (items flat) e A → is_finite A ≡ false →
+      selects_from_no_table : {a b p A : _} → form e ≡ T.Select a b p → FoundFor flat a Γ A → table_in (out-CType A) ≡ None →
+          BreaksTerm R.NotTable (type_text A ∷ [])
+      applies_no_function : {f a p A : _} → m ≢ unasked → form e ≡ T.App f a p → ¬ (IsOverloaded flat f) → FoundFor flat f Γ A →
+          function_in (out-CType A) ≡ None → BreaksTerm R.NotFunction (type_text A ∷ [])
+      function_for_data : {F A B : _} → (r ≡ data_wanted) ⊎ (r ≡ finite_wanted) → Has F →
+          function_in (out-CType F) ≡ Some (A, B) → BreaksTerm R.FunctionHere []
+      argument_not_finite : {A : _} → r ≡ finite_wanted → IsType (items flat) e A → is_finite A ≡ false →
           BreaksTerm R.NotFinite (type_text A ∷ [])
-      table_type_over : {a b : Term} {p : Place} {A : CType} → form e ≡ T.TabType a b p → IsType (items flat) a A →
-          is_finite A ≡ false →
+      table_type_over : {a b p A : _} → form e ≡ T.TabType a b p → IsType (items flat) a A → is_finite A ≡ false →
           BreaksTerm R.NotFinite (type_text A ∷ [])
-      table_over : {A : CType} {text : Bool} → IsOver A text → is_finite A ≡ false → ¬ ((text ≡ true) × (A ≡ str_type)) →
+      table_over : {A text : _} → IsOver A text → is_finite A ≡ false → ¬ ((text ≡ true) × (A ≡ str_type)) →
           BreaksTerm R.NotFinite (type_text A ∷ [])
-      too_many_numbers : {f a : Term} {n : ℕ} {p q : Place} → form e ≡ T.App f a p → is_ints (form f) ≡ true →
-          form a ≡ T.Num n q →
+      too_many_numbers : {f a n p q : _} → form e ≡ T.App f a p → is_ints (form f) ≡ true → form a ≡ T.Num n q →
           most_values < n + 1 → BreaksTerm R.ParamTooLarge (type_text (number_type n) ∷ [])
-      table_type_too_large : {a b : Term} {p : Place} {A : CType} → form e ≡ T.TabType a b p → IsType (items flat) a A →
-          is_finite A ≡ true →
+      table_type_too_large : {a b p A : _} → form e ≡ T.TabType a b p → IsType (items flat) a A → is_finite A ≡ true →
           most_values < count_of A → BreaksTerm R.ParamTooLarge (type_text A ∷ [])
-      table_too_large : {A : CType} {text : Bool} → IsOver A text → is_finite A ≡ true → most_values < count_of A →
+      table_too_large : {A text : _} → IsOver A text → is_finite A ≡ true → most_values < count_of A →
           BreaksTerm R.ParamTooLarge (type_text A ∷ [])
-      value_left_out : {A : CType} {text : Bool} {v : Param} → IsOver A text → IsDomain A → LeavesOut e A v →
+      value_left_out : {A text v : _} → IsOver A text → IsDomain A → LeavesOut e A v →
           BreaksTerm R.NotExhaustive (param_text v ∷ [])
-      no_alternative : {v : Whole} {es : List Term} {As : List CType} {us : List LinTerm} → m ≢ unasked →
-          HasOverload flat e v es →
-          FindsAll (items flat) Γ es As us → ((k : ℕ) (B : CType) (u : LinTerm) → ¬ (Suits (items flat) v As us k B u)) →
-          BreaksTerm R.NoOverload (v.name ∷ [])
-      many_alternatives : {v : Whole} {es : List Term} {As : List CType} {us : List LinTerm} {i k : ℕ} {B C : CType}
-          {t u : LinTerm} →
-          m ≢ unasked → HasOverload flat e v es → FindsAll (items flat) Γ es As us → Suits (items flat) v As us i B t →
-          Suits (items flat) v As us k C u → i ≢ k → BreaksTerm R.ManyOverloads (v.name ∷ [])
+      no_alternative : {v : Whole} {es As us : _} → m ≢ unasked → HasOverload flat e v es → FindsAll (items flat) Γ es As us →
+          ((k : ℕ) (B : CType) (u : LinTerm) → ¬ (Suits (items flat) v As us k B u)) → BreaksTerm R.NoOverload (v.name ∷ [])
+      many_alternatives : {v : Whole} {es As us i k B C t u : _} → m ≢ unasked → HasOverload flat e v es →
+          FindsAll (items flat) Γ es As us → Suits (items flat) v As us i B t → Suits (items flat) v As us k C u → i ≢ k →
+          BreaksTerm R.ManyOverloads (v.name ∷ [])
 
   -- the type of a pattern that has one of its own
   pub data PatternHas (p : Pattern) : CType → Type 0 where
     a_text : is_text_pattern (pattern_form p) ≡ true → PatternHas p str_type
-    a_number : {n : ℕ} {q : Place} → pattern_form p ≡ P.Num n q → PatternHas p (number_type n)
-    a_constructor : {m : Option (List ℕ)} {c : Whole} {ps : List Pattern} {q : Place} {As : List CType} {B : CType} →
-        pattern_form p ≡ P.Con m (WholeName c) ps q → IsConstructorOf flat c As B → length ps ≤ length As →
-        PatternHas p (functions (drop (length ps) As) B)
+    a_number : {n q : _} → pattern_form p ≡ P.Num n q → PatternHas p (number_type n)
+    a_constructor : {m c ps q As B : _} → pattern_form p ≡ P.Con m (WholeName c) ps q → IsConstructorOf flat c As B →
+        length ps ≤ length As → PatternHas p (functions (drop (length ps) As) B)
 
   -- what is broken at a pattern that is given a type, before its parts are looked at and after that
   pub data BreaksPatternEarly (p : Pattern) (A : CType) : Rule → List (List ℕ) → Type 0 where
-    applied_too_far : {m : Option (List ℕ)} {c : Whole} {ps : List Pattern} {q : Place} {As : List CType} {B : CType} →
-        pattern_form p ≡ P.Con m (WholeName c) ps q → IsConstructorOf flat c As B → length As < length ps →
-        BreaksPatternEarly p A R.NotFunction (type_text B ∷ [])
-    pattern_of_no_record : {ls : List (List ℕ)} → pattern_labels (pattern_form p) ≡ Some ls → is_record (out-CType A) ≡ false →
+    applied_too_far : {m c ps q As B : _} → pattern_form p ≡ P.Con m (WholeName c) ps q → IsConstructorOf flat c As B →
+        length As < length ps → BreaksPatternEarly p A R.NotFunction (type_text B ∷ [])
+    pattern_of_no_record : {ls : _} → pattern_labels (pattern_form p) ≡ Some ls → is_record (out-CType A) ≡ false →
         BreaksPatternEarly p A R.NotRecord (type_text A ∷ [])
-    pattern_of_no_field : {ls : List (List ℕ)} {x : List ℕ} → pattern_labels (pattern_form p) ≡ Some ls →
-        is_record (out-CType A) ≡ true →
+    pattern_of_no_field : {ls x : _} → pattern_labels (pattern_form p) ≡ Some ls → is_record (out-CType A) ≡ true →
         first_absent (labels (fields_in (out-CType A))) ls ≡ Some x → BreaksPatternEarly p A R.NoField (x ∷ [])
 
   pub data BreaksPattern (p : Pattern) (A : CType) : Rule → List (List ℕ) → Type 0 where
-    pattern_does_not_fit : {B : CType} → PatternHas p B → ¬ (IsSubtype B A) →
+    pattern_does_not_fit : {B : _} → PatternHas p B → ¬ (IsSubtype B A) →
         BreaksPattern p A R.Mismatch (type_text A ∷ type_text B ∷ [])
-    variable_of_two_types : {q r : Pattern} {B C : CType} {a : Place} (Γ Δ after : Scope) (before : Scope) (x : List ℕ) →
-        pattern_form p ≡ P.Or q r a → PatternFits A q Γ → PatternFits A r Δ → Γ ≡ before ++ (x, B) ∷ after →
-        All (λ f. field_of f.0 Δ ≡ Some f.1) before → field_of x Δ ≡ Some C → B ≢ C →
-        BreaksPattern p A R.Mismatch (type_text B ∷ type_text C ∷ [])
+    variable_of_two_types : {q r B C a : _} (Γ Δ after : Scope) (before : Scope) (x : List ℕ) → pattern_form p ≡ P.Or q r a →
+        PatternFits A q Γ → PatternFits A r Δ → Γ ≡ before ++ (x, B) ∷ after → All (λ f. field_of f.0 Δ ≡ Some f.1) before →
+        field_of x Δ ≡ Some C → B ≢ C → BreaksPattern p A R.Mismatch (type_text B ∷ type_text C ∷ [])
 
   -- what is broken at terms and patterns that stand in these sites
   pub data BreaksSites (sites : List Site) : Moment → Refusal → Type 0 where
-    at_term_early : {at : Moment} {Γ : Scope} {e : Term} {m : Mode} {r : Role} {rule : Rule} {names : List (List ℕ)} →
-        StandsIn flat sites at Γ (a_term e) m r → BreaksEarly e m rule names →
+    at_term_early : {at Γ e m r rule names : _} → StandsIn flat sites at Γ (a_term e) m r → BreaksEarly e m rule names →
         BreaksSites sites (at ++ 0 ∷ []) (refusal rule (place_of e) names)
-    at_term : {at : Moment} {Γ : Scope} {e : Term} {m : Mode} {r : Role} {rule : Rule} {names : List (List ℕ)} →
-        StandsIn flat sites at Γ (a_term e) m r → BreaksTerm Γ e m r rule names →
+    at_term : {at Γ e m r rule names : _} → StandsIn flat sites at Γ (a_term e) m r → BreaksTerm Γ e m r rule names →
         BreaksSites sites at (refusal rule (place_of e) names)
-    at_type : {at : Moment} {Γ : Scope} {e : Term} {S : CType} {r : Role} {rule : Rule} {names : List (List ℕ)} →
-        StandsIn flat sites at Γ (a_term e) (as_type S) r → BreaksSort Γ e S rule names →
+    at_type : {at Γ e S r rule names : _} → StandsIn flat sites at Γ (a_term e) (as_type S) r → BreaksSort Γ e S rule names →
         BreaksSites sites at (refusal rule (place_of e) names)
-    at_pattern_early : {at : Moment} {Γ : Scope} {p : Pattern} {A : CType} {r : Role} {rule : Rule} {names : List (List ℕ)} →
-        StandsIn flat sites at Γ (a_pattern p) (given A) r → BreaksPatternEarly p A rule names →
+    at_pattern_early : {at Γ p A r rule names : _} → StandsIn flat sites at Γ (a_pattern p) (given A) r →
+        BreaksPatternEarly p A rule names →
         BreaksSites sites (at ++ 0 ∷ []) (refusal rule (pattern_place (pattern_form p)) names)
-    at_pattern : {at : Moment} {Γ : Scope} {p : Pattern} {A : CType} {r : Role} {rule : Rule} {names : List (List ℕ)} →
-        StandsIn flat sites at Γ (a_pattern p) (given A) r → BreaksPattern p A rule names →
+    at_pattern : {at Γ p A r rule names : _} → StandsIn flat sites at Γ (a_pattern p) (given A) r → BreaksPattern p A rule names →
         BreaksSites sites at (refusal rule (pattern_place (pattern_form p)) names)
 
   -- what is broken in the types of the judgement of that whole name, in a language
   pub data BreaksTypes (lang : List ℕ) (w : Whole) (j : Judgement) : Moment → Refusal → Type 0 where
-    needs_itself : {i k : Item} {n : PlacedName} {ns : List PlacedName} {rule : Rule} → Contains (items flat) i →
-        Contains (items flat) k →
+    needs_itself : {i k : _} {n : PlacedName} {ns rule : _} → Contains (items flat) i → Contains (items flat) k →
         Contains (answers_to i) w → Contains (answers_to k) w → Rests (items flat) i k → placed_names j ≡ n ∷ ns →
-        cycle_rule j ≡ Some rule →
-        BreaksTypes lang w j (0 ∷ 0 ∷ []) (refusal rule n.place (n.name ∷ []))
-    overload_with_arguments : {ns : List PlacedName} {x : Bind} {xs : List Bind} {ds : List Alternative} →
-        j ≡ J.Oper ns (x ∷ xs) (D.Overload ds) →
+        cycle_rule j ≡ Some rule → BreaksTypes lang w j (0 ∷ 0 ∷ []) (refusal rule n.place (n.name ∷ []))
+    overload_with_arguments : {ns x xs ds : _} → j ≡ J.Oper ns (x ∷ xs) (D.Overload ds) →
         BreaksTypes lang w j (0 ∷ 1 ∷ []) (refusal R.NoType (bind_place x) [])
-    in_sites : {at : Moment} {r : Refusal} → BreaksSites (judgement_sites lang w.name j) at r → BreaksTypes lang w j at r
-    at_definition : {e : Term} {S : CType} {rule : Rule} {names : List (List ℕ)} → unwritten j ≡ Some e →
-        FoundFor flat e [] S → IsSort S →
-        BreaksSort [] e S rule names → BreaksTypes lang w j (1 ∷ []) (refusal rule (place_of e) names)
+    in_sites : {at r : _} → BreaksSites (judgement_sites lang w.name j) at r → BreaksTypes lang w j at r
+    at_definition : {e S rule names : _} → unwritten j ≡ Some e → FoundFor flat e [] S → IsSort S → BreaksSort [] e S rule names →
+        BreaksTypes lang w j (1 ∷ []) (refusal rule (place_of e) names)

@@ -32,19 +32,17 @@ HoleTypes = List (ℕ × AType)
 mutual
   -- the tree has the type, its holes having the types T
   pub data HasType (a : Abstract) (T : HoleTypes) : Tree → AType → Type 0 where
-    hole : {t : Tree} {k : ℕ} {type : AType} → IsHole t k → k < 2 ^ 32 → Contains T (k, type)
-        → HasType a T t type
-    integer : {t : Tree} {n : ℕ} → IsInteger t n → n < 2 ^ 128 → HasType a T t int_type
-    text : {t : Tree} {w : List ℕ} → IsString t w → IsWord w → HasType a T t string_type
-    application : {t : Tree} {f : Fun} {ts : List Tree} → Contains a.funs f → IsApplication t f.name ts
-        → HaveTypes a T [] f.args ts → HasType a T t (type_at ts f.result)
+    hole : {t k type : _} → IsHole t k → k < 2 ^ 32 → Contains T (k, type) → HasType a T t type
+    integer : {t n : _} → IsInteger t n → n < 2 ^ 128 → HasType a T t int_type
+    text : {t w : _} → IsString t w → IsWord w → HasType a T t string_type
+    application : {t : _} {f : Fun} {ts : _} → Contains a.funs f → IsApplication t f.name ts → HaveTypes a T [] f.args ts →
+        HasType a T t (type_at ts f.result)
 
   -- the trees have the types, of which each is over the trees before it; other trees may stand before all
   pub data HaveTypes (a : Abstract) (T : HoleTypes) : List Tree → List AType → List Tree → Type 0 where
-    none : {before : List Tree} → HaveTypes a T before [] []
-    more : {before : List Tree} {type : AType} {types : List AType} {t : Tree} {ts : List Tree}
-        → HasType a T t (type_at before type)
-        → HaveTypes a T (before ++ t ∷ []) types ts → HaveTypes a T before (type ∷ types) (t ∷ ts)
+    none : {before : _} → HaveTypes a T before [] []
+    more : {before type types t ts : _} → HasType a T t (type_at before type) → HaveTypes a T (before ++ t ∷ []) types ts →
+        HaveTypes a T before (type ∷ types) (t ∷ ts)
 
 -- the type is well formed: a category with an index for each type of its context
 pub record IsType (a : Abstract) (T : HoleTypes) (type : AType) : Type 0 where
@@ -55,9 +53,8 @@ pub record IsType (a : Abstract) (T : HoleTypes) (type : AType) : Type 0 where
 -- the holes stand in a list, the last one first, so that each type is well formed over the earlier ones
 pub data AreInOrder (a : Abstract) : HoleTypes → Type 0 where
   empty : AreInOrder a []
-  later : {T : HoleTypes} {k : ℕ} {type : AType} → AreInOrder a T
-      → ¬ Contains (map (λ (h : ℕ × AType). h.0) T) k → IsType a T type
-      → AreInOrder a ((k, type) ∷ T)
+  later : {T k type : _} → AreInOrder a T → ¬ Contains (map (λ (h : ℕ × AType). h.0) T) k → IsType a T type →
+      AreInOrder a ((k, type) ∷ T)
 
 -- the types of holes are admitted where their holes can be put in such an order
 abbrev pub IsAdmitted : Abstract → HoleTypes → Type 0

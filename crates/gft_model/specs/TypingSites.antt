@@ -284,9 +284,9 @@ judgement_sites lang x j = []
 -- variables of a lambda, or of \\, over a type: the scope with them, the variables and the type left
 pub data Binds (parts_in : CType-F.CType-F CType → Option (CType × CType)) : Scope → List Bind → CType → Scope →
     List Bind → CType → Type 0 where
-  none_bound : {Γ : Scope} {xs : List Bind} {A : CType} → Binds parts_in Γ xs A Γ xs A
-  one_bound : {Γ Δ : Scope} {x : Bind} {xs ys : List Bind} {F A B V : CType} → parts_in (out-CType F) ≡ Some (A, B) →
-      Binds parts_in (with_bound x A Γ) xs B Δ ys V → Binds parts_in Γ (x ∷ xs) F Δ ys V
+  none_bound : {Γ xs A : _} → Binds parts_in Γ xs A Γ xs A
+  one_bound : {Γ Δ x xs ys F A B V : _} → parts_in (out-CType F) ≡ Some (A, B) → Binds parts_in (with_bound x A Γ) xs B Δ ys V →
+      Binds parts_in Γ (x ∷ xs) F Δ ys V
 
 module _ (flat : Flat) where
   abbrev pub items : List Item
@@ -310,48 +310,40 @@ module _ (flat : Flat) where
 
   -- the type that comes from a source, in a scope
   pub data Gives : Source → Scope → CType → Type 0 where
-    gives_this : {Γ : Scope} {A : CType} → Gives (this A) Γ A
-    gives_found : {Γ : Scope} {e : Term} {A : CType} → FoundFor e Γ A → Gives (found_for e) Γ A
-    gives_written : {Γ : Scope} {e : Term} {A : CType} → IsType items e A → Gives (written e) Γ A
-    gives_branch : {Γ vars : Scope} {s : Source} {c : Case Term} {A V : CType} → Gives s Γ A → PatternFits A c.pattern vars →
+    gives_this : {Γ A : _} → Gives (this A) Γ A
+    gives_found : {Γ e A : _} → FoundFor e Γ A → Gives (found_for e) Γ A
+    gives_written : {Γ e A : _} → IsType items e A → Gives (written e) Γ A
+    gives_branch : {Γ vars s : _} {c : Case Term} {A V : _} → Gives s Γ A → PatternFits A c.pattern vars →
         FoundFor c.body (vars ++ Γ) V → Gives (found_for_branch s c) Γ V
-    gives_domain : {Γ : Scope} {e : Term} {S A V : CType} → FoundFor e Γ S → out-CType S ≡ CType-F.Table A V →
-        Gives (domain_of e) Γ A
-    gives_argument : {Γ : Scope} {c : Whole} {n : ℕ} {As : List CType} {A R : CType} → IsConstructorOf c As R →
-        slice_get As n ≡ Some A → Gives (argument_of c n) Γ A
-    gives_lin : {Γ : Scope} {lang f : List ℕ} {s : Signature} {As : List CType} {R : CType} → signature_in flat.funs f ≡ Some s →
+    gives_domain : {Γ e S A V : _} → FoundFor e Γ S → out-CType S ≡ CType-F.Table A V → Gives (domain_of e) Γ A
+    gives_argument : {Γ c n As A R : _} → IsConstructorOf c As R → slice_get As n ≡ Some A → Gives (argument_of c n) Γ A
+    gives_lin : {Γ lang f : _} {s : Signature} {As R : _} → signature_in flat.funs f ≡ Some s →
         HaveLinTypes flat lang s.arguments As → HasLinType flat lang s.result R → Gives (of_lin lang f) Γ (functions As R)
-    gives_lindef : {Γ : Scope} {lang C : List ℕ} {R : CType} → HasLinType flat lang C R →
-        Gives (of_lindef lang C) Γ (function_type str_type R)
-    gives_linref : {Γ : Scope} {lang C : List ℕ} {R : CType} → HasLinType flat lang C R →
-        Gives (of_linref lang C) Γ (function_type R str_type)
+    gives_lindef : {Γ lang C R : _} → HasLinType flat lang C R → Gives (of_lindef lang C) Γ (function_type str_type R)
+    gives_linref : {Γ lang C R : _} → HasLinType flat lang C R → Gives (of_linref lang C) Γ (function_type R str_type)
 
   -- the scope and the mode to which a way leads from a term's scope
   pub data Leads (e : Node) : Way → Scope → Scope → Mode → Type 0 where
-    to_mode : {Γ : Scope} {m : Mode} → Leads e (in_mode m) Γ Γ m
-    to_given : {Γ : Scope} {s : Source} {A : CType} → Gives s Γ A → Leads e (given_by s) Γ Γ (given A)
-    to_own : {Γ : Scope} {s : Source} {A U : CType} → Gives s Γ A → Leads e (given_own_by s U) Γ Γ (given_own A U)
-    to_over : {Γ : Scope} {s : Source} {A : CType} → Gives s Γ A → Leads e (over_by s) Γ Γ (over A)
-    to_overload : {Γ : Scope} {f : Term} → e ≡ a_term f → IsOverloaded f → Leads e applied Γ Γ unasked
-    to_function : {Γ : Scope} {f : Term} → e ≡ a_term f → ¬ (IsOverloaded f) → Leads e applied Γ Γ found
-    to_overload_argument : {Γ : Scope} {f : Term} → IsOverloaded f → Leads e (argument_for f) Γ Γ found
-    to_argument : {Γ : Scope} {f : Term} {F A B : CType} → ¬ (IsOverloaded f) → FoundFor f Γ F → out-CType F ≡ CType-F.Fun A B →
+    to_mode : {Γ m : _} → Leads e (in_mode m) Γ Γ m
+    to_given : {Γ s A : _} → Gives s Γ A → Leads e (given_by s) Γ Γ (given A)
+    to_own : {Γ s A U : _} → Gives s Γ A → Leads e (given_own_by s U) Γ Γ (given_own A U)
+    to_over : {Γ s A : _} → Gives s Γ A → Leads e (over_by s) Γ Γ (over A)
+    to_overload : {Γ f : _} → e ≡ a_term f → IsOverloaded f → Leads e applied Γ Γ unasked
+    to_function : {Γ f : _} → e ≡ a_term f → ¬ (IsOverloaded f) → Leads e applied Γ Γ found
+    to_overload_argument : {Γ f : _} → IsOverloaded f → Leads e (argument_for f) Γ Γ found
+    to_argument : {Γ f F A B : _} → ¬ (IsOverloaded f) → FoundFor f Γ F → out-CType F ≡ CType-F.Fun A B →
         Leads e (argument_for f) Γ Γ (given A)
-    to_type : {Γ : Scope} {t : Term} {S : CType} → IsType items t S → IsSort S → Leads e (defined_by t) Γ Γ (as_type S)
-    to_term : {Γ : Scope} {t : Term} {A : CType} → IsType items t A → ¬ (IsSort A) → Leads e (defined_by t) Γ Γ (given A)
-    after_locals : {Γ Δ : Scope} {ls : List (Local Term)} {ds : List (List (List ℕ) × LinTerm)} {w : Way} {m : Mode} →
-        Defines items Γ ls Δ ds → Leads e w Δ Δ m → Leads e (after ls w) Γ Δ m
-    under_pattern : {Γ vars : Scope} {s : Source} {p : Pattern} {w : Way} {A : CType} {m : Mode} → Gives s Γ A →
-        PatternFits A p vars →
-        Leads e w Γ Γ m → Leads e (under s p w) Γ (vars ++ Γ) m
-    in_function : {Γ Δ : Scope} {xs : List Bind} {F B : CType} → Binds function_in Γ xs F Δ [] B →
-        Leads e (in_lambda xs F) Γ Δ (given B)
-    in_cells : {Γ Δ : Scope} {xs : List Bind} {F B : CType} → Binds table_in Γ xs F Δ [] B → Leads e (in_table xs F) Γ Δ (given B)
+    to_type : {Γ t S : _} → IsType items t S → IsSort S → Leads e (defined_by t) Γ Γ (as_type S)
+    to_term : {Γ t A : _} → IsType items t A → ¬ (IsSort A) → Leads e (defined_by t) Γ Γ (given A)
+    after_locals : {Γ Δ ls ds w m : _} → Defines items Γ ls Δ ds → Leads e w Δ Δ m → Leads e (after ls w) Γ Δ m
+    under_pattern : {Γ vars s p w A m : _} → Gives s Γ A → PatternFits A p vars → Leads e w Γ Γ m →
+        Leads e (under s p w) Γ (vars ++ Γ) m
+    in_function : {Γ Δ xs F B : _} → Binds function_in Γ xs F Δ [] B → Leads e (in_lambda xs F) Γ Δ (given B)
+    in_cells : {Γ Δ xs F B : _} → Binds table_in Γ xs F Δ [] B → Leads e (in_table xs F) Γ Δ (given B)
 
   -- a term or pattern at or within one of the sites: its moment, scope, mode and role
   pub data StandsIn (sites : List Site) : Moment → Scope → Node → Mode → Role → Type 0 where
-    at_site : (k : ℕ) {s : Site} {Δ : Scope} {m : Mode} → slice_get sites k ≡ Some s → Leads s.node s.way [] Δ m →
+    at_site : (k : ℕ) {s : Site} {Δ m : _} → slice_get sites k ≡ Some s → Leads s.node s.way [] Δ m →
         StandsIn sites (suc k ∷ []) Δ s.node m s.role
-    within_it : {path : Moment} {Γ Δ : Scope} {n : Node} {m l : Mode} {r : Role} (k : ℕ) {s : Site} →
-        StandsIn sites path Γ n m r →
-        slice_get (sites_of n m) k ≡ Some s → Leads s.node s.way Γ Δ l → StandsIn sites (path ++ suc k ∷ []) Δ s.node l s.role
+    within_it : {path Γ Δ n m l r : _} (k : ℕ) {s : Site} → StandsIn sites path Γ n m r → slice_get (sites_of n m) k ≡ Some s →
+        Leads s.node s.way Γ Δ l → StandsIn sites (path ++ suc k ∷ []) Δ s.node l s.role

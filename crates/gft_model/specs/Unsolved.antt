@@ -39,28 +39,27 @@ function_named (f ∷ fs) name = if bytes_eq f.name name then Some f else functi
 
 -- the category that an argument must have, by its function
 pub data MustHave (a : Abstract) (t : Tree) (p : List ℕ) : ℕ → Type 0 where
-  argument : (q : List ℕ) (i : ℕ) {name : List ℕ} {f : Fun} {ts : List Tree} {type : AType} → p ≡ q ++ suc i ∷ []
-      → AppliesAt t q name ts → function_named a.funs name ≡ Some f → slice_get f.args i ≡ Some type
-      → MustHave a t p type.cat
+  argument : (q : List ℕ) (i : ℕ) {name : _} {f : Fun} {ts : _} {type : AType} → p ≡ q ++ suc i ∷ [] → AppliesAt t q name ts →
+      function_named a.funs name ≡ Some f → slice_get f.args i ≡ Some type → MustHave a t p type.cat
 
 -- the category that the subtree at a position has; a hole has the one that it must have where it first occurs
 pub data HasCategory (a : Abstract) (t : Tree) (p : List ℕ) : ℕ → Type 0 where
-  application : {name : List ℕ} {f : Fun} {ts : List Tree} → AppliesAt t p name ts → function_named a.funs name ≡ Some f
-      → HasCategory a t p f.result.cat
-  integer : {s : Tree} {n : ℕ} → subtree_at t p ≡ Some s → IsInteger s n → HasCategory a t p 0
-  text : {s : Tree} {w : List ℕ} → subtree_at t p ≡ Some s → IsString s w → HasCategory a t p 1
-  hole : {q : List ℕ} {k cat : ℕ} → HoleAt t p k → HoleAt t q k → ((r : List ℕ) → HoleAt t r k → IsNotAfter q r)
-      → MustHave a t q cat → HasCategory a t p cat
+  application : {name : _} {f : Fun} {ts : _} → AppliesAt t p name ts → function_named a.funs name ≡ Some f →
+      HasCategory a t p f.result.cat
+  integer : {s n : _} → subtree_at t p ≡ Some s → IsInteger s n → HasCategory a t p 0
+  text : {s w : _} → subtree_at t p ≡ Some s → IsString s w → HasCategory a t p 1
+  hole : {q k cat : _} → HoleAt t p k → HoleAt t q k → ((r : List ℕ) → HoleAt t r k → IsNotAfter q r) → MustHave a t q cat →
+      HasCategory a t p cat
 
 -- what is wrong at a position, in the order of kinds: a function that is not there, one with another number of
 -- arguments, an argument of another category
 pub data IsWrongAt (a : Abstract) (t : Tree) (p : List ℕ) : ℕ → Refusal → Type 0 where
-  unknown_fun : {name : List ℕ} {ts : List Tree} → AppliesAt t p name ts → function_named a.funs name ≡ None
-      → IsWrongAt a t p 0 (refusal UnknownFun (name ∷ []))
-  wrong_arity : {name : List ℕ} {f : Fun} {ts : List Tree} → AppliesAt t p name ts → function_named a.funs name ≡ Some f
-      → length ts ≢ length f.args → IsWrongAt a t p 1 (refusal WrongArity (name ∷ []))
-  wrong_category : {wanted found : ℕ} → MustHave a t p wanted → HasCategory a t p found → wanted ≢ found
-      → IsWrongAt a t p 2 (refusal WrongCategory (category_name a wanted ∷ category_name a found ∷ []))
+  unknown_fun : {name ts : _} → AppliesAt t p name ts → function_named a.funs name ≡ None →
+      IsWrongAt a t p 0 (refusal UnknownFun (name ∷ []))
+  wrong_arity : {name : _} {f : Fun} {ts : _} → AppliesAt t p name ts → function_named a.funs name ≡ Some f →
+      length ts ≢ length f.args → IsWrongAt a t p 1 (refusal WrongArity (name ∷ []))
+  wrong_category : {wanted found : _} → MustHave a t p wanted → HasCategory a t p found → wanted ≢ found →
+      IsWrongAt a t p 2 (refusal WrongCategory (category_name a wanted ∷ category_name a found ∷ []))
 
 -- by position in pre-order, and at one position by kind
 abbrev pub ComesFirst : List ℕ → ℕ → List ℕ → ℕ → Type 0
@@ -76,12 +75,11 @@ IsSolvable a t = (solution : Tree) × IsSolution a t solution
 
 -- why a tree has no solution: what is wrong first, else its first subtree that has none by itself
 pub data IsReason (a : Abstract) (t : Tree) : Refusal → Type 0 where
-  wrong : {p : List ℕ} {kind : ℕ} {r : Refusal} → IsWrongAt a t p kind r
-      → ((q : List ℕ) (other : ℕ) (s : Refusal) → IsWrongAt a t q other s → ComesFirst p kind q other) → IsReason a t r
-  ill_typed : {p : List ℕ} {u : Tree} → ((q : List ℕ) (kind : ℕ) (s : Refusal) → ¬ IsWrongAt a t q kind s)
-      → subtree_at t p ≡ Some u → ¬ IsSolvable a u
-      → ((q : List ℕ) (v : Tree) → IsBefore q p → subtree_at t q ≡ Some v → IsSolvable a v)
-      → IsReason a t (refusal IllTyped (text_of u ∷ []))
+  wrong : {p kind r : _} → IsWrongAt a t p kind r →
+      ((q : List ℕ) (other : ℕ) (s : Refusal) → IsWrongAt a t q other s → ComesFirst p kind q other) → IsReason a t r
+  ill_typed : {p u : _} → ((q : List ℕ) (kind : ℕ) (s : Refusal) → ¬ IsWrongAt a t q kind s) → subtree_at t p ≡ Some u →
+      ¬ IsSolvable a u → ((q : List ℕ) (v : Tree) → IsBefore q p → subtree_at t q ≡ Some v → IsSolvable a v) →
+      IsReason a t (refusal IllTyped (text_of u ∷ []))
 
 -- the refusal of a tree without a solution
 pub record IsUnsolved (a : Abstract) (t : Tree) (r : Refusal) : Type 0 where

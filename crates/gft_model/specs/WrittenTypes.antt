@@ -71,64 +71,49 @@ module _ (items : List Item) where
   mutual
     -- the term, where a type must stand, is the type
     pub data IsType : Term → CType → Type 0 where
-      text_type : {e : Term} {place : Place} → form e ≡ Term-F.Sort Sort-V.Str place →
-          IsType e str_type
-      type_of_types : {e : Term} {place : Place} → form e ≡ Term-F.Sort Sort-V.TypeSort place →
-          IsType e sort_type
-      type_of_parameters : {e : Term} {place : Place} →
-          form e ≡ Term-F.Sort Sort-V.ParamSort place → IsType e sort_param
-      numbers_to : {e f a : Term} {n : ℕ} {p q r : Place} → form e ≡ Term-F.App f a p →
-          form f ≡ Term-F.Sort Sort-V.Ints q → form a ≡ Term-F.Num n r → n + 1 ≤ most_values →
-          IsType e (number_type n)
-      labels : {e : Term} {ls : List (Local Term)} {p : Place} {fs : FieldTypes} →
-          form e ≡ Term-F.Fields ls p → AreLabels ls fs → IsType e (record_type fs)
-      table_over : {e a b : Term} {p : Place} {P V : CType} → form e ≡ Term-F.TabType a b p →
-          IsType a P → IsDomain P → IsType b V → IsData V → IsType e (table_type P V)
-      function_from : {e a b : Term} {xs : List Bind} {p : Place} {A B : CType} →
-          form e ≡ Term-F.Arrow xs a b p → IsType a A → IsData A → IsType b B →
+      text_type : {e place : _} → form e ≡ Term-F.Sort Sort-V.Str place → IsType e str_type
+      type_of_types : {e place : _} → form e ≡ Term-F.Sort Sort-V.TypeSort place → IsType e sort_type
+      type_of_parameters : {e place : _} → form e ≡ Term-F.Sort Sort-V.ParamSort place → IsType e sort_param
+      numbers_to : {e f a n p q r : _} → form e ≡ Term-F.App f a p → form f ≡ Term-F.Sort Sort-V.Ints q →
+          form a ≡ Term-F.Num n r → n + 1 ≤ most_values → IsType e (number_type n)
+      labels : {e ls p fs : _} → form e ≡ Term-F.Fields ls p → AreLabels ls fs → IsType e (record_type fs)
+      table_over : {e a b p P V : _} → form e ≡ Term-F.TabType a b p → IsType a P → IsDomain P → IsType b V → IsData V →
+          IsType e (table_type P V)
+      function_from : {e a b xs p A B : _} → form e ≡ Term-F.Arrow xs a b p → IsType a A → IsData A → IsType b B →
           IsType e (functions (for_each xs A) B)
-      pair_of : {e a b : Term} {p : Place} {Ts : List CType} → form e ≡ Term-F.Pair a b p →
-          AreFactors e Ts → IsType e (record_type (tuple_fields 0 Ts))
-      parameters_named : {e : Term} {w : Whole} {p : Place} {T : CType} →
-          form e ≡ Term-F.Var (WholeName w) p → IsParameter w T → count_of T ≤ most_values →
+      pair_of : {e a b p Ts : _} → form e ≡ Term-F.Pair a b p → AreFactors e Ts → IsType e (record_type (tuple_fields 0 Ts))
+      parameters_named : {e w p T : _} → form e ≡ Term-F.Var (WholeName w) p → IsParameter w T → count_of T ≤ most_values →
           IsType e T
-      oper_named : {e D d : Term} {w : Whole} (k : ℕ) {p : Place} {S T : CType} →
-          form e ≡ Term-F.Var (WholeName w) p → Stands w (an_oper k (Some D) (Some d)) →
-          IsType D S → (S ≡ sort_type) ⊎ (S ≡ sort_param) → IsType d T → IsType e T
-      definition_named : {e d : Term} {w : Whole} (k : ℕ) {p : Place} {T : CType} →
-          form e ≡ Term-F.Var (WholeName w) p → Stands w (an_oper k None (Some d)) →
-          ((q : Place) → ¬ (form d ≡ Term-F.Fields [] q)) → IsType d T → IsType e T
+      oper_named : {e D d w : _} (k : ℕ) {p S T : _} → form e ≡ Term-F.Var (WholeName w) p →
+          Stands w (an_oper k (Some D) (Some d)) → IsType D S → (S ≡ sort_type) ⊎ (S ≡ sort_param) → IsType d T → IsType e T
+      definition_named : {e d w : _} (k : ℕ) {p T : _} → form e ≡ Term-F.Var (WholeName w) p →
+          Stands w (an_oper k None (Some d)) → ((q : Place) → ¬ (form d ≡ Term-F.Fields [] q)) → IsType d T → IsType e T
 
     -- w names the parameter type, which has its constructors in order
     pub data IsParameter : Whole → CType → Type 0 where
-      parameter_of : {w : Whole} {cs : List Constructor} {ds : List (Whole × List CType)} {T : CType} →
-          Stands w (a_parameter cs) → AreConstructors w cs ds → out-CType T ≡ CType-F.Param w ds →
+      parameter_of : {w cs ds T : _} → Stands w (a_parameter cs) → AreConstructors w cs ds → out-CType T ≡ CType-F.Param w ds →
           IsParameter w T
 
     -- the constructors with the types of their arguments
     pub data AreConstructors : Whole → List Constructor → List (Whole × List CType) → Type 0 where
-      no_constructor : {w : Whole} → AreConstructors w [] []
-      constructor : {w : Whole} {c : Constructor} {cs : List Constructor} {Ts : List CType} {ds : List (Whole × List CType)} →
-          AreArguments c.arguments Ts → AreConstructors w cs ds →
+      no_constructor : {w : _} → AreConstructors w [] []
+      constructor : {w : _} {c : Constructor} {cs Ts ds : _} → AreArguments c.arguments Ts → AreConstructors w cs ds →
           AreConstructors w (c ∷ cs) ((record { «module» = w.«module»; name = c.name.name }, Ts) ∷ ds)
 
     -- the types of a constructor's arguments, which are finite
     pub data AreArguments : List Context → List CType → Type 0 where
       no_argument : AreArguments [] []
-      arguments : {c : Context} {cs : List Context} {T : CType} {Ts : List CType} →
-          IsType c.of_type T → is_finite T ≡ true → AreArguments cs Ts →
+      arguments : {c : Context} {cs T Ts : _} → IsType c.of_type T → is_finite T ≡ true → AreArguments cs Ts →
           AreArguments (c ∷ cs) (for_each c.binds T ++ Ts)
 
     -- labels with types of data
     pub data AreLabels : List (Local Term) → FieldTypes → Type 0 where
       no_label : AreLabels [] []
-      label : {x : List ℕ} {t : Term} {ls : List (Local Term)} {T : CType} {fs : FieldTypes} →
-          IsType t T → IsData T → AreLabels ls fs → AreLabels (Label (x ∷ []) t ∷ ls) ((x, T) ∷ fs)
+      label : {x t ls T fs : _} → IsType t T → IsData T → AreLabels ls fs → AreLabels (Label (x ∷ []) t ∷ ls) ((x, T) ∷ fs)
 
     -- the types of a product; where the left side is a product in turn, its items stay
     pub data AreFactors : Term → List CType → Type 0 where
-      last_factor : {e : Term} {T : CType} → ((a b : Term) (p : Place) →
-          ¬ (form e ≡ Term-F.Pair a b p)) → IsType e T → IsData T → AreFactors e (T ∷ [])
-      next_factor : {e a b : Term} {p : Place} {Ts : List CType} {T : CType} →
-          form e ≡ Term-F.Pair a b p → AreFactors a Ts → IsType b T → IsData T →
+      last_factor : {e T : _} → ((a b : Term) (p : Place) → ¬ (form e ≡ Term-F.Pair a b p)) → IsType e T → IsData T →
+          AreFactors e (T ∷ [])
+      next_factor : {e a b p Ts T : _} → form e ≡ Term-F.Pair a b p → AreFactors a Ts → IsType b T → IsData T →
           AreFactors e (Ts ++ T ∷ [])
