@@ -212,7 +212,8 @@ module _ (cats funs : List FlatJudgement) (LeftOut : Whole → Type 0) where
   pub data HasSignature (w : Whole) : List Indexed → Indexed → Type 0 where
     its_type : {ns t As B : _} → Declares funs w (J.Fun ns t) → ReadsFunction no_arguments t As B → HasSignature w As B
     of_list_function : {n r k p : _} → Declares funs w (J.ListCat n r k p) →
-        HasSignature w (map (λ C. record { category = C; indices = [] }) (signature_given w.name (J.ListCat n r k p)).arguments) (record { category = list_name (name_of r); indices = [] })
+        HasSignature w (map (λ C. record { category = C; indices = [] }) (signature_given w.name (J.ListCat n r k p)).arguments)
+        (record { category = list_name (name_of r); indices = [] })
 
   -- the type of an index, by the signatures of variables and functions as they are written
   pub data IndexHas (Γ : Arguments) (e : Term) : Indexed → Type 0 where

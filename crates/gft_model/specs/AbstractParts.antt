@@ -37,7 +37,8 @@ pub data IsStart (js : List Judgement) (names : List (List ℕ)) : List ℕ → 
       IsStart js names C
   by_default : {C : _} →
       ((k : Judgement) (D : List ℕ) → Contains js k → Starts k D → ¬ (Contains (codes "Int" ∷ codes "String" ∷ names) D)) →
-      ((C ≡ codes "S") × Contains names C) ⊎ (¬ (Contains names (codes "S")) × (slice_get (names ++ codes "Int" ∷ []) 0 ≡ Some C)) →
+      ((C ≡ codes "S") × Contains names C) ⊎ (¬ (Contains names (codes "S"))
+      × (slice_get (names ++ codes "Int" ∷ []) 0 ≡ Some C)) →
       IsStart js names C
 
 module _ (cats funs : List FlatJudgement) (LeftOut : Whole → Type 0) where

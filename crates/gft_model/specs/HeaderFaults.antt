@@ -170,30 +170,38 @@ module _ (mods : List Module) where
         allowed o.header ≡ false → BreaksHeader named m (16 ∷ place_moment n.place) (refusal R.WrongKind n.place (n.name ∷ []))
     functor_of_no_concrete : {f ss : _} {o : Module} → IsWith m f ss → is_concrete m.header ≡ false →
         Is mods (inherited_name f) o → is_incomplete o.header ≡ true →
-        BreaksHeader named m (16 ∷ place_moment (inherited_at f).place) (refusal R.WrongKind (inherited_at f).place (inherited_name f ∷ []))
+        BreaksHeader named m (16 ∷ place_moment (inherited_at f).place)
+        (refusal R.WrongKind (inherited_at f).place (inherited_name f ∷ []))
     judgement_of_wrong_kind : {j : _} {n : PlacedName} {ns : _} → Contains (judgements_of m) j → may_stand j m.header ≡ false →
         placed_names j ≡ n ∷ ns → BreaksHeader named m (16 ∷ place_moment n.place) (refusal R.WrongKind n.place (n.name ∷ []))
     source_of_wrong_kind : named ≡ true → is_abstract m.header ≡ false → ((n a : PlacedName) → ¬ (m.header ≡ Concrete n a)) →
-        BreaksHeader named m (16 ∷ place_moment (header_name m.header).place) (refusal R.WrongKind (header_name m.header).place ((header_name m.header).name ∷ []))
+        BreaksHeader named m (16 ∷ place_moment (header_name m.header).place)
+        (refusal R.WrongKind (header_name m.header).place ((header_name m.header).name ∷ []))
     restricts_unknown : {h : _} {n : PlacedName} → Contains (restricted_of m.rest) h → Contains (listed_names h) n →
         ((d : Declared) → ¬ (Has mods (inherited_name h) n.name d)) →
         BreaksHeader named m (17 ∷ place_moment n.place) (refusal R.RestrictUnknown n.place (n.name ∷ []))
     inherited_clash : {x : _} {i n : PlacedName} → Clash m x i n →
-        BreaksHeader named m (18 ∷ place_moment n.place ++ name_moment x ++ place_moment i.place) (refusal R.InheritClash n.place (x ∷ i.name ∷ n.name ∷ []))
+        BreaksHeader named m (18 ∷ place_moment n.place ++ name_moment x ++ place_moment i.place)
+        (refusal R.InheritClash n.place (x ∷ i.name ∷ n.name ∷ []))
     own_clash : {j k : _} {n i : PlacedName} {d : _} → Contains (judgements_of m) j → Contains (placed_names j) n →
         Gives m i n.name d → Writes mods d k → sort_of k ≡ sort_of j →
-        BreaksHeader named m (18 ∷ place_moment n.place ++ name_moment n.name ++ place_moment i.place) (refusal R.InheritClash n.place (n.name ∷ i.name ∷ (header_name m.header).name ∷ []))
+        BreaksHeader named m (18 ∷ place_moment n.place ++ name_moment n.name ++ place_moment i.place)
+        (refusal R.InheritClash n.place (n.name ∷ i.name ∷ (header_name m.header).name ∷ []))
     not_incomplete : {f ss : _} {o : Module} → IsWith m f ss → Is mods (inherited_name f) o → is_incomplete o.header ≡ false →
-        BreaksHeader named m (19 ∷ place_moment (inherited_at f).place) (refusal R.NotIncomplete (inherited_at f).place (inherited_name f ∷ []))
+        BreaksHeader named m (19 ∷ place_moment (inherited_at f).place)
+        (refusal R.NotIncomplete (inherited_at f).place (inherited_name f ∷ []))
     without_substitution : {f ss I : _} → IsWith m f ss → Parameter (inherited_name f) I →
         ((s : Substitution) → Contains ss s → s.interface.name ≢ I) →
-        BreaksHeader named m (20 ∷ place_moment (inherited_at f).place ++ name_moment I) (refusal R.ParameterUnmatched (inherited_at f).place (I ∷ []))
+        BreaksHeader named m (20 ∷ place_moment (inherited_at f).place ++ name_moment I)
+        (refusal R.ParameterUnmatched (inherited_at f).place (I ∷ []))
     no_parameter : {f ss : _} {s : Substitution} → IsWith m f ss → Contains ss s →
         ¬ (Parameter (inherited_name f) s.interface.name) →
-        BreaksHeader named m (20 ∷ place_moment s.interface.place) (refusal R.ParameterUnmatched s.interface.place (s.interface.name ∷ []))
+        BreaksHeader named m (20 ∷ place_moment s.interface.place)
+        (refusal R.ParameterUnmatched s.interface.place (s.interface.name ∷ []))
     no_instance : {f ss : _} {s : Substitution} → IsWith m f ss → Contains ss s →
         ¬ (IsInstanceOf s.instance.name s.interface.name) →
-        BreaksHeader named m (20 ∷ place_moment s.instance.place) (refusal R.ParameterUnmatched s.instance.place (s.instance.name ∷ []))
+        BreaksHeader named m (20 ∷ place_moment s.instance.place)
+        (refusal R.ParameterUnmatched s.instance.place (s.instance.name ∷ []))
     instance_lacks : {n i : PlacedName} {x d j : _} → m.header ≡ Instance n i → Has mods i.name x d → Writes mods d j →
         is_undefined j ≡ true → ((e : Declared) → ¬ (HasNameable mods n.name x e)) →
         BreaksHeader named m (21 ∷ place_moment n.place ++ name_moment x) (refusal R.InstanceLacks n.place (x ∷ []))

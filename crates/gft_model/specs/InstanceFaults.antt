@@ -90,7 +90,8 @@ module _ (mods : List Module) (m : Module) (flat : Flat) where
   -- inherited one, after all own judgements, by name
   pub data TurnOf (order : List FlatJudgement) (w : Whole) : Moment → Moment → Type 0 where
     own_turn : {k i : _} {f : FlatJudgement} → slice_get order k ≡ Some f → slice_get (answered None f) i ≡ Some w →
-        TurnOf order w (k ∷ suc (length (judgement_sites w.«module» w.name f.judgement)) ∷ i ∷ 0 ∷ []) (k ∷ suc (length (judgement_sites w.«module» w.name f.judgement)) ∷ i ∷ 1 ∷ [])
+        TurnOf order w (k ∷ suc (length (judgement_sites w.«module» w.name f.judgement)) ∷ i ∷ 0 ∷ [])
+        (k ∷ suc (length (judgement_sites w.«module» w.name f.judgement)) ∷ i ∷ 1 ∷ [])
     inherited_turn : ((f : FlatJudgement) → Contains order f → ¬ (Contains (answered None f) w)) →
         TurnOf order w (length order ∷ name_moment w.name ++ 0 ∷ []) (length order ∷ name_moment w.name ++ 1 ∷ [])
 

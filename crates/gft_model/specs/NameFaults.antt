@@ -252,7 +252,8 @@ module _ (mods : List Module) (m : Module) where
   -- what is broken in the names of a module's own judgements
   pub data BreaksNames (constructors : List ℕ → Bool) : Moment → Refusal → Type 0 where
     in_judgement : {j p rule x os : _} → Contains (judgements_of m) j → BreaksUse constructors j p rule x os →
-        BreaksNames constructors (place_moment p ++ code_of rule ∷ opened_moment os) (refusal rule p (x ∷ map (λ o. (opened_at o).name) os))
+        BreaksNames constructors (place_moment p ++ code_of rule ∷ opened_moment os)
+        (refusal rule p (x ∷ map (λ o. (opened_at o).name) os))
     abstract_lacks : {k : _} {n : PlacedName} {A : _} → Contains (own_names m) (Some k, n) → abstract_name m.header ≡ Some A →
         Lacks mods A k n.name →
         BreaksNames constructors (place_moment n.place ++ code_of R.Unknown ∷ []) (refusal R.Unknown n.place (n.name ∷ []))

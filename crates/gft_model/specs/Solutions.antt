@@ -39,7 +39,9 @@ pub data HasSolvedTypes (a : Abstract) (cat : ℕ) (solution : Tree) : AType →
   -- one hole has its category, with a further hole for each index, numbered after it in the order of the
   -- context
   hole : {k : _} {category : Cat} → IsHole solution k → slice_get a.cats cat ≡ Some category →
-      HasSolvedTypes a cat solution (record { cat = cat; args = holes_from 2 (length category.context) }) (record { cat = cat; args = holes_from 2 (length category.context) } ∷ map (type_at (holes_from 2 (length category.context))) category.context)
+      HasSolvedTypes a cat solution (record { cat = cat; args = holes_from 2 (length category.context) })
+      (record { cat = cat; args = holes_from 2 (length category.context) } ∷ map
+      (type_at (holes_from 2 (length category.context))) category.context)
   -- another tree has the type that its own holes give
   other : {type types : _} → ((k : ℕ) → ¬ IsHole solution k) → length types ≡ last_hole 0 (holes_of solution) →
       IsAdmitted a (numbered_from 1 types) → HasType a (numbered_from 1 types) solution type →
