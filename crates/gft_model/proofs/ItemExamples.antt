@@ -8,7 +8,7 @@ use Rattle.gft_syntax.specs.declared.term.Term.{Term, roll-Term}
 use Rattle.gft_syntax.specs.declared.term.Term.TheOpen as F
 use Rattle.gft_syntax.specs.declared.term.Term.TheFolds.{fold-roll-Term}
 use Rattle.gft_model.specs.Items.{Item, oper, lin}
-use Rattle.gft_model.specs.Resting.{names_in, item_names, answers_to, Rests, names_it, and_so_on, NoCycle}
+use Rattle.gft_model.specs.Resting.{item_names, answers_to, Rests, names_it, and_so_on, NoCycle}
 
 abbrev nowhere : Place
 nowhere = record { file = 0; line = 1; col = 1 }
@@ -32,10 +32,10 @@ a_lin = lin (codes "L") f name
 abbrev both : List Item
 both = an_oper ∷ a_lin ∷ []
 
-names-word : names_in word ≡ []
+names-word : item_names an_oper ≡ []
 names-word = simp fold-roll-Term
 
-names-name : names_in name ≡ f ∷ []
+names-name : item_names a_lin ≡ f ∷ []
 names-name = simp fold-roll-Term
 
 none_there : {ws : List Whole} {v : Whole} → Contains ws v → ws ≡ [] → ⊥
@@ -60,7 +60,10 @@ no_cycle i k (suc (suc n), b, e) x y r = omega (arith, b)
 abbrev cyclic : Item
 cyclic = oper f None (Some name)
 
+names-cyclic : item_names cyclic ≡ f ∷ []
+names-cyclic = simp fold-roll-Term
+
 pub cycle : ¬ NoCycle (cyclic ∷ []) f
 cycle h =
     h cyclic cyclic (0, omega arith, refl) (0, omega arith, refl) (0, omega arith, refl)
-    (names_it {v = f} (0, omega arith, refl) (subst (λ (ws : List Whole). Contains ws f) (sym names-name) (0, omega arith, refl)) (0, omega arith, refl))
+    (names_it {v = f} (0, omega arith, refl) (subst (λ (ws : List Whole). Contains ws f) (sym names-cyclic) (0, omega arith, refl)) (0, omega arith, refl))

@@ -24,7 +24,7 @@ use Rattle.gft_model.specs.ConcreteTypes.{field_of}
 use Rattle.gft_model.specs.ConcreteTyping.{Spine, for_each}
 use Rattle.gft_model.specs.JudgementTyping.{list_name, name_of, signature_given}
 use Rattle.gft_model.specs.Refusals.{Moment, refusal}
-use Rattle.gft_model.specs.TermParts.{parts}
+use Rattle.gft_syntax.specs.Parts.{parts}
 use Rattle.gft_model.specs.AbstractInfo.{index_step}
 use Rattle.gft_model.specs.Trees.{Printed, filled}
 use Rattle.gft_tree.specs.Trees.{as_arguments}

@@ -31,6 +31,7 @@ use Rattle.gft_syntax.specs.declared.token.SourceToken.{SourceToken}
 use Rattle.gft_syntax.specs.declared.token.Symbol.{Symbol as Sign}
 use Rattle.gft_syntax.specs.declared.token.Symbol.TheVariants as S
 use Rattle.gft_syntax.specs.declared.token.TokenForm.TheVariants.{Identifier, Reserved, Number, Quoted, Symbol}
+use Rattle.gft_syntax.specs.Parts.{local_names}
 use Rattle.gft_model.specs.JudgementTyping.{list_name}
 
 -- tokens of a file
@@ -81,16 +82,10 @@ is_value (Value xs e) = true
 is_value (Label xs t) = false
 is_value (TypedValue xs t e) = true
 
--- the names that a local or field has
-abbrev pub labels_of : {A : Type 0} → Local A → List (List ℕ)
-labels_of (Value xs e) = xs
-labels_of (Label xs t) = xs
-labels_of (TypedValue xs t e) = xs
-
 -- fields are all with = or all with : alone, and no label stands twice
 abbrev pub are_fields : {A : Type 0} → List (Local A) → Bool
 are_fields ls =
-    (list_all is_value ls || list_all (λ l. not (is_value l)) ls) && distinct (flat_map labels_of ls)
+    (list_all is_value ls || list_all (λ l. not (is_value l)) ls) && distinct (flat_map local_names ls)
 
 -- the levels of terms, from the loosest
 pub data Level : Type 0 where

@@ -1,8 +1,6 @@
 -- The judgements of a resolved grammar that have a number, in their order.
 use Rattle.std.specs.Prelude.{ℕ, List, [], ◌∷◌, ◌++◌, map, flat_map, Option, Some, None}
-use Rattle.gft_core.specs.declared.place.Place.{Place}
 use Rattle.gft_syntax.specs.declared.bind.Bind.{Bind}
-use Rattle.gft_syntax.specs.declared.bind.Bind.TheVariants.{Variable, Nothing}
 use Rattle.gft_syntax.specs.declared.reference.Whole.{Whole}
 use Rattle.gft_syntax.specs.declared.term.Term.{Term, roll-Term}
 use Rattle.gft_syntax.specs.declared.term.Term.TheOpen as Term-F
@@ -13,6 +11,7 @@ use Rattle.gft_syntax.specs.declared.judgement.Judgement.{Judgement}
 use Rattle.gft_syntax.specs.declared.judgement.Judgement.TheVariants as Judgement-V
 use Rattle.gft_syntax.specs.declared.flat.Flat.{Flat}
 use Rattle.gft_syntax.specs.declared.flat.FlatJudgement.{FlatJudgement}
+use Rattle.gft_syntax.specs.Parts.{bind_place}
 
 -- a numbered judgement: a parameter type with its constructors or without; an oper with its type
 -- and its definition, where they are there; an alternative of an overload, after the type and the
@@ -26,11 +25,6 @@ pub data Item : Type 0 where
   lin : List ℕ → Whole → Term → Item
   lindef : List ℕ → Whole → Term → Item
   linref : List ℕ → Whole → Term → Item
-
--- the place of what is bound
-abbrev pub bind_place : Bind → Place
-bind_place (Variable x place) = place
-bind_place (Nothing place) = place
 
 -- arguments before the = are a lambda at the place of the first
 abbrev pub with_arguments : List Bind → Term → Term

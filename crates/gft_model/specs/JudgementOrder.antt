@@ -19,16 +19,7 @@ use Rattle.gft_model.specs.HeaderFaults.{is_incomplete, is_interface, sort_of}
 use Rattle.gft_model.specs.JudgementTyping.{list_name, Signature, signature_in}
 use Rattle.gft_model.specs.Modules.{Is, Writes, OwnName, Declared, own, copy, header_name, inherited_of, inherited_name, lets_through, judgements_of, declared_names, is_undefined, main_name}
 use Rattle.gft_model.specs.NameFaults.{Lacks}
-use Rattle.gft_model.specs.Resting.{named_by, names_in}
-use Rattle.gft_model.specs.TermParts.{judgement_parts}
-
--- the whole names in a judgement
-abbrev pub list_names : Judgement → List Whole
-list_names (J.ListCat c r k place) = named_by r
-list_names j = []
-
-abbrev pub names_within : Judgement → List Whole
-names_within j = list_names j ++ flat_map (λ p. names_in p.part) (judgement_parts j)
+use Rattle.gft_syntax.specs.Parts.{judgement_names}
 
 -- the whole names by which terms name a judgement; they name no linearization
 abbrev pub answered : Option Keyword → FlatJudgement → List Whole
@@ -46,7 +37,7 @@ pub data NeedsType (funs : List FlatJudgement) (e : FlatJudgement) : List ℕ �
 
 -- among judgements, one rests on another: it names it, needs it, or rests on what does
 pub data RestsOn (es funs : List FlatJudgement) : FlatJudgement → FlatJudgement → Type 0 where
-  by_name : {e f : FlatJudgement} {w : _} → Contains es e → Contains es f → Contains (names_within e.judgement) w →
+  by_name : {e f : FlatJudgement} {w : _} → Contains es e → Contains es f → Contains (judgement_names e.judgement) w →
       Contains (answered (sort_of f.judgement) f) w → RestsOn es funs e f
   by_lincat : {e : _} {f : FlatJudgement} {C : _} → Contains es e → Contains es f → NeedsType funs e C →
       sort_of f.judgement ≡ Some K.Lincat → f.whole.name ≡ C → RestsOn es funs e f

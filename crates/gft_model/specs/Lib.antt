@@ -23,7 +23,6 @@ pub mod Productions
 pub mod Compiled
 pub mod Refusals
 pub mod TokenFaults
-pub mod TermParts
 pub mod SyntaxFaults
 pub mod HeaderFaults
 pub mod NameFaults

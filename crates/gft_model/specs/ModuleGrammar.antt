@@ -1,9 +1,6 @@
 -- Slices of a body, and which tokens spell a judgement, a header and a module.
 use Rattle.std.specs.Prelude.{◌≡◌, ℕ, ◌≤◌, List, [], ◌∷◌, ◌++◌, Option, Some, None, option_map}
 use Rattle.gft_syntax.specs.declared.bind.Bind.{Bind}
-use Rattle.gft_syntax.specs.declared.judgement.Alternative.{Alternative}
-use Rattle.gft_syntax.specs.declared.judgement.Constructor.{Constructor}
-use Rattle.gft_syntax.specs.declared.judgement.Context.{Context}
 use Rattle.gft_syntax.specs.declared.judgement.Definition.{Definition}
 use Rattle.gft_syntax.specs.declared.judgement.Definition.TheVariants as D
 use Rattle.gft_syntax.specs.declared.judgement.Judgement.{Judgement}
@@ -17,10 +14,8 @@ use Rattle.gft_syntax.specs.declared.module.Header.{Header}
 use Rattle.gft_syntax.specs.declared.module.Header.TheVariants as H
 use Rattle.gft_syntax.specs.declared.module.Inherited.{Inherited}
 use Rattle.gft_syntax.specs.declared.module.Module.{Module}
-use Rattle.gft_syntax.specs.declared.module.Opened.{Opened}
 use Rattle.gft_syntax.specs.declared.module.Rest.{Rest}
 use Rattle.gft_syntax.specs.declared.module.Rest.TheVariants.{Own, Inherits, With}
-use Rattle.gft_syntax.specs.declared.module.Substitution.{Substitution}
 use Rattle.gft_syntax.specs.declared.reference.PlacedName.{PlacedName}
 use Rattle.gft_syntax.specs.declared.reference.Reference.TheVariants.{Written}
 use Rattle.gft_syntax.specs.declared.term.Term.{Term}

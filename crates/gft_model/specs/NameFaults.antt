@@ -31,7 +31,7 @@ use Rattle.gft_model.specs.JudgementTyping.{list_name}
 use Rattle.gft_model.specs.Modules.{opened_at, Has, HasNameable, Writes, OpensAs, Sees, SeesQualified, Declared, header_name, judgements_of, opened_of}
 use Rattle.gft_model.specs.Refusals.{Moment, Before, refusal, place_moment}
 use Rattle.gft_model.specs.Resolution.{Locals, is_local}
-use Rattle.gft_model.specs.TermParts.{Part as TermPart, parts, patterns_in, judgement_parts}
+use Rattle.gft_syntax.specs.Parts.{Part as TermPart, parts, patterns_in, judgement_parts}
 use Rattle.gft_model.specs.TypeForms.{predef_named}
 
 -- what stands in a judgement for the resolution of names, where no local variable has the name: x, Q.x with the place

@@ -2,8 +2,6 @@
 use Rattle.std.specs.Prelude.{ℕ, List, [], ◌∷◌, ◌++◌, map, flat_map, Bool, bytes_eq, Option, Some, None, if◌then◌else◌, option_map}
 use Rattle.std.specs.List.{list_any}
 use Rattle.gft_core.specs.declared.place.Place.{Place}
-use Rattle.gft_syntax.specs.declared.bind.Bind.{Bind}
-use Rattle.gft_syntax.specs.declared.bind.Bind.TheVariants.{Variable, Nothing}
 use Rattle.gft_syntax.specs.declared.judgement.Constructor.{Constructor}
 use Rattle.gft_syntax.specs.declared.judgement.Context.{Context}
 use Rattle.gft_syntax.specs.declared.judgement.Definition.{Definition}
@@ -22,6 +20,7 @@ use Rattle.gft_syntax.specs.declared.term.Local.TheVariants.{Value, Label, Typed
 use Rattle.gft_syntax.specs.declared.term.Term.{Term, roll-Term, out-Term}
 use Rattle.gft_syntax.specs.declared.term.Term.TheOpen as T
 use Rattle.gft_syntax.specs.declared.term.Term.TheFolds.{para-Term, map-Term}
+use Rattle.gft_syntax.specs.Parts.{bound_names, local_names, pattern_parts}
 use Rattle.gft_model.specs.JudgementTyping.{list_name}
 
 -- what names mean: a bare one, one with a module's name before it, and which bare ones are constructors
@@ -37,12 +36,6 @@ Locals = List (List ℕ)
 -- a local variable has the name
 abbrev pub is_local : List ℕ → Locals → Bool
 is_local x xs = list_any (bytes_eq x) xs
-
--- the variables that are bound
-abbrev pub bound_names : List Bind → Locals
-bound_names [] = []
-bound_names (Variable x place ∷ xs) = x ∷ bound_names xs
-bound_names (Nothing place ∷ xs) = bound_names xs
 
 -- a name, which means something or is a variable
 abbrev pub whole_or : Reference → Option Whole → Reference
@@ -82,26 +75,13 @@ pattern_step n xs d = roll-Pattern d
 abbrev pub resolved_pattern : Names → Locals → Pattern → Pattern
 resolved_pattern n xs = fold-Pattern Pattern (pattern_step n xs)
 
--- the variable that a name of a resolved pattern is
-abbrev pub variable_of : Reference → Locals
-variable_of (R.Written x) = x ∷ []
-variable_of (R.Found o) = []
-variable_of (R.Whole w) = []
-
--- the variables of one layer of a pattern; those of both sides of an alternative are the same
+-- the variables of one layer of a resolved pattern; those of both sides of an alternative are the same
 abbrev pub variables_step : P.Pattern-F Locals → Locals
 variables_step (P.Or p q place) = p
-variables_step (P.Seq p q place) = p ++ q
-variables_step (P.Con m r ps place) = flat_map (λ p. p) ps
 variables_step (P.Star p place) = []
 variables_step (P.As x p place) = x ∷ p
-variables_step (P.Any place) = []
-variables_step (P.One place) = []
-variables_step (P.Name r place) = variable_of r
-variables_step (P.Text t place) = []
-variables_step (P.Num k place) = []
-variables_step (P.Fields fs place) = flat_map (λ f. f.pattern) fs
-variables_step (P.Tuple ps place) = flat_map (λ p. p) ps
+variables_step (P.Name (R.Written x) place) = x ∷ []
+variables_step d = flat_map (λ p. p) (pattern_parts d)
 
 -- the variables that a resolved pattern binds
 abbrev pub variables_of : Pattern → Locals
@@ -116,12 +96,6 @@ abbrev pub resolved_field : Locals → Local (Term × Open) → Local Term
 resolved_field xs (Value ls e) = Value ls (e.1 xs)
 resolved_field xs (Label ls t) = Label ls (t.1 xs)
 resolved_field xs (TypedValue ls t e) = TypedValue ls (t.1 xs) (e.1 xs)
-
--- the names that a local binds
-abbrev pub local_names : {A : Type 0} → Local A → Locals
-local_names (Value ls e) = ls
-local_names (Label ls t) = ls
-local_names (TypedValue ls t e) = ls
 
 -- locals, each seeing those before it, and the variables after them
 abbrev pub resolved_locals : Locals → List (Local (Term × Open)) → List (Local Term) × Locals

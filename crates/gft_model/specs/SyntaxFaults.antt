@@ -20,7 +20,7 @@ use Rattle.gft_model.specs.Grammar.{Tokens, Is, IsReserved}
 use Rattle.gft_model.specs.ModuleGrammar.{mark_of, opening, closing_brace, closing, let_word, in_word, semicolon, other, slices_of, SpellsSlice, SpellsModule, AtEnd}
 use Rattle.gft_model.specs.Refusals.{Moment, refusal, place_moment}
 use Rattle.gft_model.specs.Source.{reserved_words, symbols, spelled_in, first_place}
-use Rattle.gft_model.specs.TermParts.{judgement_parts, height}
+use Rattle.gft_syntax.specs.Parts.{judgement_parts, height}
 
 -- the text by which a refusal names a token
 pub data IsSpelled : TokenForm → List ℕ → Type 0 where

@@ -1,14 +1,11 @@
 -- Faults of types in a judgement, each at the term or pattern that is faulty.
 use Rattle.std.specs.Prelude.{◌≡◌, ℕ, ◌+◌, ◌<◌, ◌≤◌, List, [], ◌∷◌, ◌++◌, map, flat_map, length, drop, Bool, true, false, All, ◌⊎◌, bytes_eq, Contains, Option, Some, None, ◌≢◌, slice_get, if◌then◌else◌}
 use Rattle.std.specs.List.{list_any, list_all}
-use Rattle.gft_core.specs.declared.place.Place.{Place}
 use Rattle.gft_rules.specs.declared.refusal.Refusal.{Refusal}
 use Rattle.gft_rules.specs.declared.rule.Rule.{Rule}
 use Rattle.gft_rules.specs.declared.rule.Rule.TheVariants as R
-use Rattle.gft_syntax.specs.declared.bind.Bind.{Bind}
 use Rattle.gft_syntax.specs.declared.ctype.CType.{CType, out-CType}
 use Rattle.gft_syntax.specs.declared.flat.Flat.{Flat}
-use Rattle.gft_syntax.specs.declared.judgement.Alternative.{Alternative}
 use Rattle.gft_syntax.specs.declared.judgement.Definition.TheVariants as D
 use Rattle.gft_syntax.specs.declared.judgement.Judgement.{Judgement}
 use Rattle.gft_syntax.specs.declared.judgement.Judgement.TheVariants as J
@@ -18,18 +15,17 @@ use Rattle.gft_syntax.specs.declared.pattern.Pattern.TheOpen as P
 use Rattle.gft_syntax.specs.declared.reference.PlacedName.{PlacedName}
 use Rattle.gft_syntax.specs.declared.reference.Reference.TheVariants.{Whole as WholeName}
 use Rattle.gft_syntax.specs.declared.reference.Whole.{Whole}
-use Rattle.gft_syntax.specs.declared.term.Case.{Case}
-use Rattle.gft_syntax.specs.declared.term.Local.{Local}
 use Rattle.gft_syntax.specs.declared.term.Sort.TheVariants as Sort-V
 use Rattle.gft_syntax.specs.declared.term.Term.{Term}
 use Rattle.gft_syntax.specs.declared.term.Term.TheOpen as T
 use Rattle.gft_syntax.specs.declared.value.Param.{Param}
+use Rattle.gft_syntax.specs.Parts.{bind_place, local_names, pattern_place}
 use Rattle.gft_syntax.specs.Terms.{Layer, place_of}
 use Rattle.gft_model.specs.ConcreteTypes.{field_of, is_finite, count_of, values_of, IsSubtype}
 use Rattle.gft_model.specs.ConcreteTyping.{IsType, IsParameter, IsDomain, Fits, Checks, FindsAll, Suits, Stands, an_oper, passes, is_record, most_values, patterns}
-use Rattle.gft_model.specs.Grammar.{is_value, labels_of}
+use Rattle.gft_model.specs.Grammar.{is_value}
 use Rattle.gft_model.specs.HeaderFaults.{placed_names}
-use Rattle.gft_model.specs.Items.{Item, bare_parameter, bind_place}
+use Rattle.gft_model.specs.Items.{bare_parameter}
 use Rattle.gft_model.specs.JudgementTyping.{IsSort}
 use Rattle.gft_model.specs.Matching.{match_of, is_matched, parameter}
 use Rattle.gft_model.specs.PatternTyping.{Scope, PatternFits, pattern_form}
@@ -77,7 +73,7 @@ is_selected r = false
 
 -- the labels of a record or a tuple, and whether a form is one
 abbrev pub record_labels : Layer → Option (List (List ℕ))
-record_labels (T.Fields ls place) = if list_all is_value ls then Some (flat_map labels_of ls) else None
+record_labels (T.Fields ls place) = if list_all is_value ls then Some (flat_map local_names ls) else None
 record_labels d = None
 
 -- the first of the labels that are wanted which is not there
@@ -99,21 +95,6 @@ is_text_pattern (P.One place) = true
 is_text_pattern (P.Seq p q place) = true
 is_text_pattern (P.Star p place) = true
 is_text_pattern d = false
-
--- the place of a pattern's first token
-abbrev pub pattern_place : P.Pattern-F Pattern → Place
-pattern_place (P.Or p q place) = place
-pattern_place (P.Seq p q place) = place
-pattern_place (P.Con m r ps place) = place
-pattern_place (P.Star p place) = place
-pattern_place (P.As x p place) = place
-pattern_place (P.Any place) = place
-pattern_place (P.One place) = place
-pattern_place (P.Name r place) = place
-pattern_place (P.Text t place) = place
-pattern_place (P.Num n place) = place
-pattern_place (P.Fields fs place) = place
-pattern_place (P.Tuple ps place) = place
 
 -- the definition of an oper that has no arguments and no written type
 abbrev pub unwritten : Judgement → Option Term

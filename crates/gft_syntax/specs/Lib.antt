@@ -1,5 +1,6 @@
 pub mod Layers
 pub mod Terms
+pub mod Parts
 pub mod TermFolds
 pub mod Patterns
 pub mod Types
