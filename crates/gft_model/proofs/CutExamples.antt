@@ -3,7 +3,7 @@ use Rattle.std.specs.Prelude.{◌≡◌, List, [], ◌∷◌, codes}
 use Rattle.std.proofs.Common.{refl, ap}
 use Rattle.gft_core.specs.declared.tree.Tree.{Tree, App, Hole}
 use Rattle.gft_core.specs.declared.tree.Tree.TheOpen as layer
-use Rattle.gft_model.specs.Layers.{by_layers, by_layers-App}
+use Rattle.gft_model.proofs.Layers.{by_layers, by_layers-App}
 use Rattle.gft_model.specs.Brackets.{Piece, word, grammar, bracketed, erased}
 use Rattle.gft_model.specs.Cut.{Cutting, cut_of, cut_step}
 

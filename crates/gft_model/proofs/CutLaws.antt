@@ -5,7 +5,7 @@ use Rattle.std.proofs.lemmas.Bool.{eq-eqb, ne_eqb}
 use Rattle.gft_core.specs.declared.tree.Tree.{Tree, App, Int, Str, Hole}
 use Rattle.gft_core.specs.declared.tree.Tree.TheOpen as layer
 use Rattle.gft_pmcfg.specs.declared.signature.Abstract.{Abstract}
-use Rattle.gft_model.specs.Layers.{by_layers, each, by_layers-App, by_layers-Int, by_layers-Str, Each, induction}
+use Rattle.gft_model.proofs.Layers.{by_layers, each, by_layers-App, by_layers-Int, by_layers-Str, Each, induction}
 use Rattle.gft_model.specs.Trees.{IsInstance, filled, holes_of, all_of}
 use Rattle.gft_pmcfg.specs.declared.signature.AType.{AType}
 use Rattle.gft_model.specs.Typing.{HasType, HaveTypes, hole, integer, text, application, none, more, empty}

@@ -7,7 +7,7 @@ use Rattle.gft_pmcfg.specs.declared.signature.AType.{AType}
 use Rattle.gft_pmcfg.specs.declared.signature.Abstract.{Abstract}
 use Rattle.gft_pmcfg.specs.declared.signature.Fun.{Fun}
 use Rattle.gft_model.specs.AbstractInfo.{judgement_lines, type_text}
-use Rattle.gft_model.specs.Layers.{by_layers-App, by_layers-Hole}
+use Rattle.gft_model.proofs.Layers.{by_layers-App, by_layers-Hole}
 
 abbrev pub kind : AType
 kind = record { cat = 5; args = [] }

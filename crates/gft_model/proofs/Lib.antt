@@ -1,3 +1,4 @@
+pub mod Layers
 pub mod SourceLemmas
 pub mod Computing
 pub mod OutcomeExamples

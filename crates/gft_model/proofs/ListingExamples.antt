@@ -5,7 +5,7 @@ use Rattle.gft_core.specs.declared.symbol.Sym.TheVariants.{Tok}
 use Rattle.gft_core.specs.declared.tree.Tree.{Tree, App, Hole}
 use Rattle.gft_core.specs.declared.tree.Tree.TheOpen as layer
 use Rattle.gft_core.specs.declared.tree.Tree.TheVariants.{outs-App, outs-Hole}
-use Rattle.gft_model.specs.Layers.{by_layers-App}
+use Rattle.gft_model.proofs.Layers.{by_layers-App}
 use Rattle.gft_model.specs.Trees.{IsHole, depth_of}
 use Rattle.gft_model.specs.Typing as typing
 use Rattle.gft_model.specs.Typing.{HasType, HoleTypes, IsAdmitted, empty, later}

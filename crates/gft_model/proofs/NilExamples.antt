@@ -8,7 +8,7 @@ use Rattle.gft_core.specs.declared.tree.Tree.{Tree, App, Int, Hole}
 use Rattle.gft_core.specs.declared.tree.Tree.TheVariants.{outs-App, outs-Int}
 use Rattle.gft_pmcfg.specs.declared.signature.Fun.{Fun}
 use Rattle.gft_pmcfg.specs.declared.concrete.Prod.{Prod}
-use Rattle.gft_model.specs.Layers.{induction, by_layers-App, by_layers-Int, by_layers-Str, by_layers-Hole}
+use Rattle.gft_model.proofs.Layers.{induction, by_layers-App, by_layers-Int, by_layers-Str, by_layers-Hole}
 use Rattle.gft_model.specs.Trees.{IsHole, depth_of, depth_step}
 use Rattle.gft_model.specs.Skeleton as skeleton
 use Rattle.gft_model.specs.Skeleton.{HasSkeletonType}

@@ -8,7 +8,7 @@ use Rattle.gft_core.specs.declared.tree.Tree.TheOpen.{Tree-F}
 use Rattle.gft_core.specs.declared.tree.Tree.TheOpen as layer
 use Rattle.gft_core.specs.declared.tree.Tree.TheVariants.{outs-Int, outs-Str, outs-Hole}
 use Rattle.gft_pmcfg.specs.declared.signature.Abstract.{Abstract}
-use Rattle.gft_model.specs.Layers.{Each, induction}
+use Rattle.gft_model.proofs.Layers.{Each, induction}
 use Rattle.gft_model.specs.Trees.{filled, holes_of, all_of}
 use Rattle.gft_model.specs.Solutions.{are_numbered, IsSolution}
 use Rattle.gft_model.proofs.TreeLemmas.{filled-App, filled-Int, filled-Str, filled-Hole, holes_of-App, holes_of-Int, holes_of-Str, holes_of-Hole, same_parts, no_hole}

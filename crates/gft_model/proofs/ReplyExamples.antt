@@ -13,7 +13,7 @@ use Rattle.gft_rules.specs.declared.rule.Rule.TheVariants.{UnknownFun}
 use Rattle.gft_model.specs.Brackets.{Piece, Mark, grammar, erased, marked}
 use Rattle.gft_model.specs.Commands.{refusal}
 use Rattle.gft_model.specs.Cut.{Cutting, cut_of, cut_step}
-use Rattle.gft_model.specs.Layers.{by_layers-App}
+use Rattle.gft_model.proofs.Layers.{by_layers-App}
 use Rattle.gft_model.specs.Listing.{IsListed, IsBefore}
 use Rattle.gft_model.specs.Replies.{Item, a_tree, a_line, FailsAt, Parses, Completes, AreNext}
 use Rattle.gft_model.specs.Replies as replies

@@ -12,7 +12,7 @@ use Rattle.gft_core.specs.declared.tree.Tree.TheVariants.{rolls-App, rolls-Int, 
 use Rattle.gft_pmcfg.specs.declared.signature.Fun.{Fun}
 use Rattle.gft_pmcfg.specs.Ranges.{has_function, is_index, index_step}
 use Rattle.gft_model.specs.Fields.{big_endian, number_after}
-use Rattle.gft_model.specs.Layers.{Each, induction, by_layers-App, by_layers-Int, by_layers-Str, by_layers-Hole}
+use Rattle.gft_model.proofs.Layers.{Each, induction, by_layers-App, by_layers-Int, by_layers-Str, by_layers-Hole}
 use Rattle.gft_model.specs.FileForms.{term_tag}
 use Rattle.gft_model.specs.PortableFile.{function_number, numbered, numbered_step}
 use Rattle.gft_model.proofs.FieldLaws.{number-big_endian}

@@ -5,7 +5,7 @@ use Rattle.std.specs.Fmt.{digits}
 use Rattle.gft_core.specs.declared.tree.Tree.{Tree, App, Int, Str, Hole}
 use Rattle.gft_core.specs.declared.tree.Tree.TheOpen.{Tree-F}
 use Rattle.gft_core.specs.declared.tree.Tree.TheVariants.{outs-App}
-use Rattle.gft_model.specs.Layers.{by_layers-App, by_layers-Int, by_layers-Str, by_layers-Hole}
+use Rattle.gft_model.proofs.Layers.{by_layers-App, by_layers-Int, by_layers-Str, by_layers-Hole}
 use Rattle.gft_model.specs.Trees.{text_of, depth_of, holes_of, subtree_at, subtree_of, child_at, printed, Printed}
 
 -- `Same ?1 (mk ?2)`

@@ -5,7 +5,7 @@ use Rattle.gft_core.specs.declared.tree.Tree.{Tree, App, Int, Str, Hole, out-Tre
 use Rattle.gft_core.specs.declared.tree.Tree.TheOpen.{Tree-F}
 use Rattle.gft_core.specs.declared.tree.Tree.TheOpen as layer
 use Rattle.gft_core.specs.declared.tree.Tree.TheVariants.{rolls-App, rolls-Int, rolls-Str, outs-App, outs-Hole}
-use Rattle.gft_model.specs.Layers.{by_layers-App, by_layers-Int, by_layers-Str, by_layers-Hole}
+use Rattle.gft_model.proofs.Layers.{by_layers-App, by_layers-Int, by_layers-Str, by_layers-Hole}
 use Rattle.gft_model.specs.Trees.{filled, filled_step, holes_of, holes_step, all_of}
 
 -- replacing, by the tree's form

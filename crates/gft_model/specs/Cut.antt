@@ -1,9 +1,8 @@
 -- What a string shows of a tree.
 use Rattle.std.specs.Prelude.{ℕ, suc, ◌+◌, List, [], ◌∷◌, ◌++◌, if◌then◌else◌}
-use Rattle.gft_core.specs.declared.tree.Tree.{Tree, App, Int, Str, Hole}
+use Rattle.gft_core.specs.declared.tree.Tree.{Tree, App, Int, Str, Hole, fold-Tree}
 use Rattle.gft_core.specs.declared.tree.Tree.TheOpen.{Tree-F}
 use Rattle.gft_core.specs.declared.tree.Tree.TheOpen as layer
-use Rattle.gft_model.specs.Layers.{by_layers}
 use Rattle.gft_model.specs.Brackets.{Piece, is_shown}
 
 -- a tree whose outermost hidden parts become holes: it takes its position and the next number of a hole,
@@ -34,4 +33,4 @@ cut_step b tree p next = if is_shown p b then kept tree p next else (Hole next, 
 -- own, numbered
 -- from 1 in the order of the text
 abbrev pub cut_of : Tree → List Piece → Tree
-cut_of t b = (by_layers Cutting (cut_step b) t [] 1).0
+cut_of t b = (fold-Tree Cutting (cut_step b) t [] 1).0

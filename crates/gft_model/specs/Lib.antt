@@ -36,7 +36,6 @@ pub mod InstanceFaults
 pub mod JudgementOrder
 pub mod SourceLaws
 pub mod Resting
-pub mod Layers
 pub mod Trees
 pub mod Typing
 pub mod Skeleton

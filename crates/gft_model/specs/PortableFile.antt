@@ -1,7 +1,7 @@
 -- The bytes of a grammar, and what bytes are read as: a grammar, or their first fault.
 use Rattle.std.specs.Prelude.{ℕ, ◌+◌, ◌-◌, bytes_eq, if◌then◌else◌, List, [], ◌∷◌, length, map, drop, codes, slice_get, Some, ◌≡◌, IsTrue, take, flat_map, All}
 use Rattle.gft_core.specs.declared.symbol.Sym.{Sym}
-use Rattle.gft_core.specs.declared.tree.Tree.{Tree, App, Int, Str, Hole}
+use Rattle.gft_core.specs.declared.tree.Tree.{Tree, App, Int, Str, Hole, fold-Tree}
 use Rattle.gft_core.specs.declared.tree.Tree.TheOpen.{Tree-F}
 use Rattle.gft_core.specs.declared.tree.Tree.TheOpen as layer
 use Rattle.gft_pmcfg.specs.declared.signature.AType.{AType}
@@ -17,7 +17,6 @@ use Rattle.gft_pmcfg.specs.declared.grammar.Grammar.{Grammar}
 use Rattle.gft_pmcfg.specs.Ranges.{is_in_range}
 use Rattle.gft_rules.specs.declared.rule.Rule.TheVariants.{TooLong}
 use Rattle.gft_model.specs.Fields.{big_endian, written, Fits, outcome, got, fault}
-use Rattle.gft_model.specs.Layers.{by_layers}
 use Rattle.gft_rules.specs.declared.rule.Rule.{Rule}
 use Rattle.gft_model.specs.Typing.{IsCategoryTyped, IsFunctionTyped, HasTypes, signature_of}
 use Rattle.gft_model.specs.Flaws.{Flaw, unproductive, HaveTypesFlaw}
@@ -37,7 +36,7 @@ numbered_step fs (layer.Int n) = Int n
 numbered_step fs (layer.Str w) = Str w
 
 abbrev pub numbered : List Fun → Tree → Tree
-numbered fs = by_layers Tree (numbered_step fs)
+numbered fs = fold-Tree Tree (numbered_step fs)
 
 -- the fields of each part of a grammar
 abbrev pub with_length : List ℕ → Text
