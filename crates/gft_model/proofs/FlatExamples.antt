@@ -8,14 +8,13 @@ use Rattle.gft_syntax.specs.declared.flat.FlatJudgement.{FlatJudgement}
 use Rattle.gft_syntax.specs.declared.judgement.Definition.TheVariants as D
 use Rattle.gft_syntax.specs.declared.judgement.Judgement.{Judgement}
 use Rattle.gft_syntax.specs.declared.judgement.Judgement.TheVariants as J
-use Rattle.gft_syntax.specs.declared.module.Header.TheVariants.{Abstract}
 use Rattle.gft_syntax.specs.declared.module.Module.{Module}
-use Rattle.gft_syntax.specs.declared.reference.PlacedName.{PlacedName}
 use Rattle.gft_syntax.specs.declared.reference.Whole.{Whole}
 use Rattle.gft_syntax.specs.declared.term.Term.{Term}
 use Rattle.gft_model.specs.Modules.{Is, Has, declares, inherits, keeps, instantiates, HasNameable, at_home, from_opened, from_named, plainly, by_alias, by_name, Means, own_name, own_qualified, Declared, own, Writes, own_text, bare, qualified, inherited_of, opened_of, judgements_of, declared_names, mentions, main_name}
 use Rattle.gft_model.specs.Resolution.{Names, resolved_judgement}
-use Rattle.gft_model.specs.Flats.{whole_of, alone, part_of, IsConstructor, Part, parameters, opers, RestsOn, itself, through, IsMeaning, AreMeanings, IsEntry, HasEntry, HasSomewhere, of_none, IsFlat}
+use Rattle.gft_model.specs.Flats.{whole_of, alone, part_of, IsConstructor, Part, parameters, opers, RestsOn, itself, through, IsMeaning, AreMeanings, IsEntry, HasOfPart, HasAbstract, HasSomewhere, AreListed, IsFlat, categories, functions}
+use Rattle.gft_model.specs.Refusals.{Moment}
 use Rattle.gft_model.proofs.ModuleExamples.{resource_of_mk}
 
 -- what stands in a list of one
@@ -145,49 +144,65 @@ module _ (p : Place) (T e : Term) where
   rests itself = refl
   rests (through is (k, b, f) r) = absurd (let none = ap (λ m. length (mentions m)) (is_r2 is) in omega (arith, b, none))
 
-  only_entry : {g : Part} {M : List ℕ} {e' : FlatJudgement} → codes "R2" ≡ M → HasEntry mods g M e' → (g ≡ opers) × (e' ≡ entry)
-  only_entry {g} {e' = f} same (x, d, j, h, i) =
-      let hd = had (subst (λ N. Has mods N x d) (sym same) h.has) in
-      let is = written_only (subst (λ c. Writes mods c j) hd.1 h.writes) in
-      let part : Some opers ≡ Some g = ap (part_of x) is ∙ h.part in
-      let main : mk ≡ main_name j x = hd.0 ∙ ap (λ k. main_name k x) is in
+  only_entry : {g : Part} {M : List ℕ} {at : Moment} {f : FlatJudgement} → codes "R2" ≡ M → HasOfPart mods g M at f → (g ≡ opers) × (f ≡ entry)
+  only_entry {g} {f = f} same h =
+      let i = h.entry in
+      let hd = had (subst (λ N. Has mods N h.name h.declared) (sym same) h.has) in
+      let is = written_only (subst (λ c. Writes mods c h.judgement) hd.1 h.writes) in
+      let part : Some opers ≡ Some g = ap (part_of h.name) is ∙ h.taken in
+      let main : mk ≡ main_name h.judgement h.name = hd.0 ∙ ap (λ k. main_name k h.name) is in
       let whole : f.whole ≡ entry.whole = i.whole ∙ sym (same_whole main hd.1) in
       let judgement : f.judgement ≡ entry.judgement =
-      i.judgement ∙ ap (λ n. resolved_judgement n (alone (main_name j x) i.text)) (names_once i.names (subst (λ c. AreMeanings mods c i.names) hd.1 i.meanings))
+      i.judgement
+      ∙ ap (λ n. resolved_judgement n (alone (main_name h.judgement h.name) i.text)) (names_once i.names (subst (λ c. AreMeanings mods c i.names) hd.1 i.meanings))
       ∙ ap (λ y. resolved_judgement names (alone y i.text)) (sym main)
       ∙ ap (λ t. resolved_judgement names (alone mk t)) (sym (written_only (subst (λ c. Writes mods c i.text) hd.1 i.writes))) in
       (cc, λ k. record { whole = whole k; judgement = judgement k })
 
-  somewhere : {g : Part} {f : FlatJudgement} → HasSomewhere mods g (codes "R2" ∷ []) f → (g ≡ opers) × (f ≡ entry)
-  somewhere (C, M, c, r, h) = only_entry (rests (subst (λ N. RestsOn mods N M) (sym (one_of c)) r)) h
+  abbrev chosen : List (List ℕ)
+  chosen = codes "R2" ∷ []
+
+  somewhere : {g : Part} {at : Moment} {f : FlatJudgement} → HasSomewhere mods g chosen at f → (g ≡ opers) × (f ≡ entry)
+  somewhere (C, M, c, r, there, is, h) = only_entry (rests (subst (λ N. RestsOn mods N M) (sym (one_of c)) r)) h
 
   abbrev flat : Flat
   flat = record { name = None; start = None; cats = []; funs = []; params = []; opers = entry ∷ []; concretes = []; typed = [] }
 
-  no_abstract : (m : Module) (n : PlacedName) → Contains (codes "R2" ∷ []) n.name → Is mods n.name m → ¬ (m.header ≡ Abstract n)
-  no_abstract m n c i h =
-      let header = ap (λ (k : Module). k.header) (is_r2 (subst (λ x. Is mods x m) (sym (one_of c)) i)) in cc
+  nothing : {es : List FlatJudgement} {P : Moment → FlatJudgement → Type 0} → es ≡ [] → ((at : Moment) (f : FlatJudgement) → ¬ P at f) → AreListed es P
+  nothing {es} e lacks = record {
+    all = λ f. (λ c. let none = ap (λ (fs : List FlatJudgement). length fs) e in absurd (omega (arith, c.1, none)), λ h. absurd (lacks h.0 f h.1));
+    in_order = λ i j d a b. let none = ap (λ (fs : List FlatJudgement). length fs) e in absurd (omega (arith, b, none));
+  }
 
-  no_parameter : {f : FlatJudgement} → HasSomewhere mods parameters (codes "R2" ∷ []) f → Contains [] f
-  no_parameter h = let wrong : parameters ≡ opers = (somewhere h).0 in cc
+  no_parameter : (at : Moment) (f : FlatJudgement) → ¬ HasSomewhere mods parameters chosen at f
+  no_parameter at f h = let wrong : parameters ≡ opers = (somewhere h).0 in cc
 
-  has_entry : HasSomewhere mods opers (codes "R2" ∷ []) entry
+  no_abstract : (p : Part) (at : Moment) (f : FlatJudgement) → ¬ HasAbstract mods p chosen at f
+  no_abstract p at f (m, is, h) = cc
+
+  -- the oper is the first of the first judgement of the first chosen module
+  has_entry : HasSomewhere mods opers chosen (0 ∷ 1 ∷ 3 ∷ 0 ∷ 0 ∷ []) entry
   has_entry = (
     codes "R2",
     codes "R2",
     (0, omega arith, refl),
     itself,
-    (mk, here, text, record { has = has_mk.has; writes = own_text 0 refl refl; part = refl }, entry_of_mk),
+    (3 ∷ 0 ∷ 0 ∷ []),
+    refl,
+    record { name = mk; declared = here; judgement = text; has = declares 0 refl refl (0, omega arith, refl); turn_is = refl; writes = own_text 0 refl refl; taken = refl; entry = entry_of_mk },
   )
 
   -- the grammar has the one oper and no abstract part
-  pub is_flat : IsFlat mods (codes "R2" ∷ []) flat
+  pub is_flat : IsFlat mods chosen flat
   is_flat = record {
-    has_abstract = of_none no_abstract refl refl refl refl;
-    params = record { all = λ f. (λ c. absurd (omega (arith, c.1)), no_parameter); once = λ i j d a b. absurd (omega (arith, b)) };
+    name = refl;
+    start = refl;
+    cats_of = nothing refl (no_abstract categories);
+    funs_of = nothing refl (no_abstract functions);
+    params_of = nothing refl no_parameter;
     opers_of = record {
-      all = λ f. (λ c. subst (HasSomewhere mods opers (codes "R2" ∷ [])) (one_of c) has_entry, λ h. (0, omega arith, sym (somewhere h).1));
-      once = λ i j d a b. absurd (omega (arith, a, b));
+      all = λ f. (λ c. subst (λ g. (at : Moment) × HasSomewhere mods opers chosen at g) (one_of c) (_, has_entry), λ h. (0, omega arith, sym (somewhere h.1).1));
+      in_order = λ i j d a b. absurd (omega (arith, a, b));
     };
     languages = refl;
     judgements = λ c k. absurd (omega (arith, k.1));
@@ -195,7 +210,7 @@ module _ (p : Place) (T e : Term) where
   }
 
   -- and without it there is no such grammar
-  pub no_oper_left_out : (f : Flat) → f.opers ≡ [] → ¬ (IsFlat mods (codes "R2" ∷ []) f)
+  pub no_oper_left_out : (f : Flat) → f.opers ≡ [] → ¬ (IsFlat mods chosen f)
   no_oper_left_out f e h =
-      let c = (h.opers_of.all entry).1 has_entry in
+      let c = (h.opers_of.all entry).1 (_, has_entry) in
       let none : length f.opers ≡ 0 = ap (λ (es : List FlatJudgement). length es) e in omega (arith, c.1, none)

@@ -14,7 +14,6 @@ use Rattle.gft_syntax.specs.declared.judgement.Keyword.TheVariants as K
 use Rattle.gft_syntax.specs.declared.reference.PlacedName.{PlacedName}
 use Rattle.gft_syntax.specs.declared.value.Value.{Value}
 use Rattle.gft_model.specs.ConcreteTypes.{cells_of_type, cases_of, product_of}
-use Rattle.gft_model.specs.HeaderFaults.{placed_names, sort_of}
 use Rattle.gft_model.specs.Items.{items_of}
 use Rattle.gft_model.specs.JudgementTyping.{Signature, signature_in}
 use Rattle.gft_model.specs.Languages.{is_lin, is_lincat, is_lindef, is_linref, lin_type}
@@ -23,6 +22,7 @@ use Rattle.gft_model.specs.Productions.{outcomes_by_case, case_values, given}
 use Rattle.gft_model.specs.Refusals.{Moment, refusal, placeless, name_moment}
 use Rattle.gft_model.specs.TreeStrings.{string_outcomes}
 use Rattle.gft_model.specs.TreeValues.{hole_outcomes}
+use Rattle.gft_model.specs.Modules.{placed_names, sort_of}
 
 -- cells of a linearization type, cases of a category or of a function, results of a function
 abbrev pub most_cells : ℕ

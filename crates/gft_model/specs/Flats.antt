@@ -1,6 +1,6 @@
 -- The resolved grammar of modules: every judgement that counts, under its whole name, with each name
 -- in it replaced by what it means.
-use Rattle.std.specs.Prelude.{◌≡◌, ℕ, List, [], ◌∷◌, map, filter, Bool, true, false, ◌&&◌, ◌↔◌, bytes_eq, codes, Contains, AllPairs, Option, Some, None, ◌≢◌, if◌then◌else◌}
+use Rattle.std.specs.Prelude.{◌≡◌, ℕ, List, [], ◌∷◌, ◌++◌, map, filter, Bool, true, false, not, ◌&&◌, ◌↔◌, bytes_eq, codes, Contains, AllPairs, Option, Some, None, option_map, option_and_then, if◌then◌else◌}
 use Rattle.std.specs.List.{list_any}
 use Rattle.std.specs.Cmp.Lexicographic.{slice_cmp}
 use Rattle.std.specs.Ordering.{nat_cmp}
@@ -12,13 +12,12 @@ use Rattle.gft_syntax.specs.declared.judgement.Constructor.{Constructor}
 use Rattle.gft_syntax.specs.declared.judgement.Judgement.{Judgement}
 use Rattle.gft_syntax.specs.declared.judgement.Judgement.TheVariants as J
 use Rattle.gft_syntax.specs.declared.judgement.Setting.TheVariants as V
-use Rattle.gft_syntax.specs.declared.module.Header.{Header}
-use Rattle.gft_syntax.specs.declared.module.Header.TheVariants.{Abstract, Concrete}
 use Rattle.gft_syntax.specs.declared.module.Module.{Module}
 use Rattle.gft_syntax.specs.declared.reference.PlacedName.{PlacedName}
 use Rattle.gft_syntax.specs.declared.reference.Whole.{Whole}
 use Rattle.gft_model.specs.JudgementTyping.{list_name}
-use Rattle.gft_model.specs.Modules.{Is, Has, Writes, Means, Declared, module_of, module_named, header_mentions, mentions, judgements_of, main_name, Written, bare, qualified, name_of}
+use Rattle.gft_model.specs.Modules.{is_abstract, is_concrete, is_incomplete, Is, Has, turn, Writes, header_name, Means, Declared, module_of, module_named, header_mentions, mentions, judgements_of, main_name, Written, bare, qualified, name_of}
+use Rattle.gft_model.specs.Refusals.{Moment, Before}
 use Rattle.gft_model.specs.Resolution.{Names, resolved_judgement}
 
 -- the whole name of a judgement under one of its names
@@ -103,16 +102,27 @@ default_start (C ∷ Cs) = if list_any (bytes_eq (codes "S")) (C ∷ Cs) then co
 abbrev pub start_of : List (List ℕ) → List Judgement → List ℕ
 start_of cats js = elim (last_value cats js None) [ Some C ↦ C | None ↦ default_start cats ]
 
--- the header of a complete concrete module
-abbrev pub is_complete_concrete : Header → Bool
-is_complete_concrete (Concrete n a) = true
-is_complete_concrete h = false
-
 module _ (mods : List Module) where
+  -- the abstract module among some: the first
+  abbrev pub abstract_in : List (List ℕ) → Option Module
+  abstract_in [] = None
+  abstract_in (C ∷ Cs) =
+      elim (option_and_then (λ (m : Module). if is_abstract m.header then Some m else None) (module_named mods C))
+      [ Some m ↦ Some m | None ↦ abstract_in Cs ]
+
+  -- a name of a complete concrete module
+  abbrev pub is_language : List ℕ → Bool
+  is_language M = elim (module_named mods M) [ Some m ↦ is_concrete m.header && not (is_incomplete m.header) | None ↦ false ]
+
   -- a module rests on itself, on what it names, and so on
   pub data RestsOn : List ℕ → List ℕ → Type 0 where
     itself : {M : _} → RestsOn M M
     through : {M K m : _} {n : PlacedName} → Is mods M m → Contains (mentions m) n → RestsOn n.name K → RestsOn M K
+
+  -- its turn there: as in loading, what a module names comes before it, in the order of the text
+  abbrev pub loading_turn : {M K : List ℕ} → RestsOn M K → Moment
+  loading_turn (through is c r) = 0 ∷ c.0 ∷ loading_turn r
+  loading_turn itself = 1 ∷ []
 
   -- the one thing that a name in a judgement means; several are no fault where the name is not used
   pub record IsMeaning (d : Declared) (w : Written) (whole : Whole) : Type 0 where
@@ -137,62 +147,62 @@ module _ (mods : List Module) where
     pub whole : e.whole ≡ whole_of x d
     pub judgement : e.judgement ≡ resolved_judgement names (alone x text)
 
-  -- the module has a judgement under the name, of that part
-  pub record HasOfPart (p : Part) (M x : List ℕ) (d : Declared) (j : Judgement) : Type 0 where
-    pub has : Has mods M x d
-    pub writes : Writes mods d j
-    pub part : part_of x j ≡ Some p
-
-  -- what a module has of a part
-  abbrev pub HasEntry : Part → List ℕ → FlatJudgement → Type 0
-  HasEntry p M e =
-      (x : List ℕ) × (d : Declared) × (j : Judgement) × HasOfPart p M x d j × IsEntry (main_name j x) d e
-
-  -- what some module that the chosen ones rest on has of a part
-  abbrev pub HasSomewhere : Part → List (List ℕ) → FlatJudgement → Type 0
-  HasSomewhere p chosen e = (C : List ℕ) × (M : List ℕ) × Contains chosen C × RestsOn C M × HasEntry p M e
-
-  -- what a concrete module says of the categories and functions of its abstract module; what it says of
-  -- others is no part of the language
-  pub record HasLinearization (M : List ℕ) (e : FlatJudgement) : Type 0 where
-    pub text : Module
-    pub abstract_at : PlacedName
+  -- the module has an entry, at its turn there, of a judgement that is taken under one of its names
+  pub record HasEntry (Takes : List ℕ → Judgement → Type 0) (entry_name : Judgement → List ℕ → List ℕ) (M : List ℕ) (at : Moment)
+      (e : FlatJudgement) : Type 0 where
     pub name : List ℕ
     pub declared : Declared
     pub judgement : Judgement
-    pub part : Part
-    pub is : Is mods M text
-    pub of_abstract : Contains (header_mentions text.header) abstract_at
     pub has : Has mods M name declared
+    pub turn_is : turn mods has ≡ at
     pub writes : Writes mods declared judgement
-    pub part_is : linearized_part judgement ≡ Some part
-    pub linearized : (d : Declared) × (j : Judgement) × HasOfPart part abstract_at.name name d j
-    pub entry : IsEntry name declared e
+    pub taken : Takes name judgement
+    pub entry : IsEntry (entry_name judgement name) declared e
 
-  -- the entries are exactly those of the relation, each once
-  pub record AreExactly (es : List FlatJudgement) (P : FlatJudgement → Type 0) : Type 0 where
-    pub all : (e : FlatJudgement) → Contains es e ↔ P e
-    pub once : AllPairs ◌≢◌ es
+  -- what a module has of a part
+  abbrev pub HasOfPart : Part → List ℕ → Moment → FlatJudgement → Type 0
+  HasOfPart p = HasEntry (λ x j. part_of x j ≡ Some p) main_name
 
-  -- the abstract part: that of the abstract module among the chosen ones, or none
-  pub data HasAbstract (chosen : List (List ℕ)) (flat : Flat) : Type 0 where
-    of_module : {m : Module} (n : PlacedName) → Contains chosen n.name → Is mods n.name m → m.header ≡ Abstract n →
-        flat.name ≡ Some n.name → flat.start ≡ Some (start_of (map (λ e. e.whole.name) flat.cats) (judgements_of m)) →
-        AreExactly flat.cats (HasEntry categories n.name) → AreExactly flat.funs (HasEntry functions n.name) →
-        HasAbstract chosen flat
-    of_none : ((m : Module) (n : PlacedName) → Contains chosen n.name → Is mods n.name m → ¬ (m.header ≡ Abstract n)) →
-        flat.name ≡ None → flat.start ≡ None → flat.cats ≡ [] → flat.funs ≡ [] → HasAbstract chosen flat
+  -- what the abstract module among the chosen ones has of a part
+  abbrev pub HasAbstract : Part → List (List ℕ) → Moment → FlatJudgement → Type 0
+  HasAbstract p chosen at e =
+      (m : Module) × (abstract_in chosen ≡ Some m) × HasOfPart p (header_name m.header).name at e
 
-  -- a name of a complete concrete module
-  abbrev pub is_language : List ℕ → Bool
-  is_language M = elim (module_named mods M) [ Some m ↦ is_complete_concrete m.header | None ↦ false ]
+  -- what some module that the chosen ones rest on has of a part
+  abbrev pub HasSomewhere : Part → List (List ℕ) → Moment → FlatJudgement → Type 0
+  HasSomewhere p chosen at e =
+      (C : List ℕ) × (M : List ℕ) × (c : Contains chosen C) × (r : RestsOn C M) × (there : Moment)
+      × (at ≡ c.0 ∷ loading_turn r ++ there) × HasOfPart p M there e
 
-  -- the resolved grammar of the chosen modules
-  pub record IsFlat (chosen : List (List ℕ)) (flat : Flat) : Type 0 where
-    pub has_abstract : HasAbstract chosen flat
-    pub params : AreExactly flat.params (HasSomewhere parameters chosen)
-    pub opers_of : AreExactly flat.opers (HasSomewhere opers chosen)
-    pub languages : map (λ c. c.name) flat.concretes ≡ filter is_language chosen
-    pub judgements : (c : FlatConcrete) → Contains flat.concretes c →
-        AreExactly c.judgements (HasLinearization c.name)
-    pub typed : flat.typed ≡ []
+  -- the abstract module has the category or the function that a judgement of a language is of
+  abbrev pub IsOf : List ℕ → List ℕ → Judgement → Type 0
+  IsOf A x j = (p : Part) × (d : Declared) × (k : Judgement)
+      × (linearized_part j ≡ Some p) × Has mods A x d × Writes mods d k × (part_of x k ≡ Some p)
+
+  -- what a concrete module says of the categories and functions of its abstract module; what it says of
+  -- others is no part of the language
+  abbrev pub HasLinearization : List ℕ → Moment → FlatJudgement → Type 0
+  HasLinearization M = HasEntry
+      (λ x j. (m : Module) × (A : PlacedName) × Is mods M m × Contains (header_mentions m.header) A × IsOf A.name x j) (λ j x. x) M
+
+-- the first turn of the one comes before all turns of the other
+abbrev pub Precedes : (Moment → FlatJudgement → Type 0) → FlatJudgement → FlatJudgement → Type 0
+Precedes Has e f = (first : Moment) × Has first e × ((at : Moment) → Has at f → Before first at)
+
+-- the entries are exactly those of the relation, each once, in the order of their first turns
+pub record AreListed (es : List FlatJudgement) (Has : Moment → FlatJudgement → Type 0) : Type 0 where
+  pub all : (e : FlatJudgement) → Contains es e ↔ ((at : Moment) × Has at e)
+  pub in_order : AllPairs (Precedes Has) es
+
+-- the resolved grammar of the chosen modules, where no judgement is typed yet
+pub record IsFlat (mods : List Module) (chosen : List (List ℕ)) (flat : Flat) : Type 0 where
+  pub name : flat.name ≡ option_map (λ (m : Module). (header_name m.header).name) (abstract_in mods chosen)
+  pub start : flat.start ≡
+      option_map (λ m. start_of (map (λ e. e.whole.name) flat.cats) (judgements_of m)) (abstract_in mods chosen)
+  pub cats_of : AreListed flat.cats (HasAbstract mods categories chosen)
+  pub funs_of : AreListed flat.funs (HasAbstract mods functions chosen)
+  pub params_of : AreListed flat.params (HasSomewhere mods parameters chosen)
+  pub opers_of : AreListed flat.opers (HasSomewhere mods opers chosen)
+  pub languages : map (λ c. c.name) flat.concretes ≡ filter (is_language mods) chosen
+  pub judgements : (c : FlatConcrete) → Contains flat.concretes c → AreListed c.judgements (HasLinearization mods c.name)
+  pub typed : flat.typed ≡ []

@@ -1,43 +1,21 @@
 -- Faults of a module's header, and of names that it declares twice.
-use Rattle.std.specs.Prelude.{◌≡◌, ℕ, List, [], ◌∷◌, ◌++◌, map, flat_map, length, Bool, true, false, not, ◌⊎◌, codes, Contains, Option, Some, None, ◌≢◌}
+use Rattle.std.specs.Prelude.{◌≡◌, ℕ, List, [], ◌∷◌, ◌++◌, map, flat_map, length, Bool, true, false, not, ◌⊎◌, codes, Contains, Option, ◌≢◌}
 use Rattle.gft_rules.specs.declared.refusal.Refusal.{Refusal}
 use Rattle.gft_rules.specs.declared.rule.Rule.TheVariants as R
 use Rattle.gft_syntax.specs.declared.judgement.Judgement.{Judgement}
 use Rattle.gft_syntax.specs.declared.judgement.Judgement.TheVariants as J
 use Rattle.gft_syntax.specs.declared.judgement.Keyword.{Keyword}
-use Rattle.gft_syntax.specs.declared.judgement.Keyword.TheVariants as K
 use Rattle.gft_syntax.specs.declared.module.Body.{Body}
 use Rattle.gft_syntax.specs.declared.module.Header.{Header}
 use Rattle.gft_syntax.specs.declared.module.Header.TheVariants.{Abstract, Resource, Interface, Instance, Concrete, Incomplete}
 use Rattle.gft_syntax.specs.declared.module.Inherited.{Inherited}
 use Rattle.gft_syntax.specs.declared.module.Inherited.TheVariants.{Whole, Only, Except}
 use Rattle.gft_syntax.specs.declared.module.Module.{Module}
-use Rattle.gft_syntax.specs.declared.module.Opened.{Opened}
-use Rattle.gft_syntax.specs.declared.module.Rest.{Rest}
-use Rattle.gft_syntax.specs.declared.module.Rest.TheVariants.{Own, Inherits, With}
+use Rattle.gft_syntax.specs.declared.module.Rest.TheVariants.{With}
 use Rattle.gft_syntax.specs.declared.module.Substitution.{Substitution}
 use Rattle.gft_syntax.specs.declared.reference.PlacedName.{PlacedName}
-use Rattle.gft_model.specs.JudgementTyping.{list_name}
-use Rattle.gft_model.specs.Modules.{inherited_at, opened_at, Is, Has, HasNameable, Writes, OwnName, OpensAs, Declared, copy, header_name, inherited_of, inherited_name, lets_through, judgements_of, opened_of, is_undefined, main_name}
+use Rattle.gft_model.specs.Modules.{is_abstract, is_interface, is_incomplete, is_concrete, placed_names, sort_of, restricted_of, inherited_at, opened_at, Is, Has, HasNameable, Writes, OwnName, OpensAs, Declared, copy, header_name, inherited_of, inherited_name, lets_through, judgements_of, opened_of, is_undefined, main_name}
 use Rattle.gft_model.specs.Refusals.{Moment, Before, refusal, place_moment, name_moment}
-
--- kinds of modules
-abbrev pub is_abstract : Header → Bool
-is_abstract (Abstract n) = true
-is_abstract h = false
-
-abbrev pub is_interface : Header → Bool
-is_interface (Interface n) = true
-is_interface h = false
-
-abbrev pub is_incomplete : Header → Bool
-is_incomplete (Incomplete n a) = true
-is_incomplete h = false
-
-abbrev pub is_concrete : Header → Bool
-is_concrete (Concrete n a) = true
-is_concrete (Incomplete n a) = true
-is_concrete h = false
 
 -- the first may inherit from the second, and may open it
 abbrev pub may_inherit : Header → Header → Bool
@@ -75,42 +53,11 @@ may_stand (J.OperType ns T) h = is_interface h
 may_stand (J.OperTyped ns T d) h = not (is_abstract h)
 may_stand (J.Oper ns xs d) h = not (is_abstract h)
 
--- the names that a judgement declares, at their places
-abbrev pub placed_names : Judgement → List PlacedName
-placed_names (J.Cat n cs) = n ∷ []
-placed_names (J.ListCat n r k place) =
-    map (λ x. record { name = x; place = place })
-    (list_name n.name ∷ (codes "Base" ++ n.name) ∷ (codes "Cons" ++ n.name) ∷ [])
-placed_names (J.Fun ns T) = ns
-placed_names (J.Flag n v) = []
-placed_names (J.Lincat ns T) = ns
-placed_names (J.Lin ns xs e) = ns
-placed_names (J.Lindef ns xs e) = ns
-placed_names (J.Linref ns xs e) = ns
-placed_names (J.ParamName n) = n ∷ []
-placed_names (J.Param n cs) = n ∷ map (λ c. c.name) cs
-placed_names (J.OperType ns T) = ns
-placed_names (J.OperTyped ns T d) = ns
-placed_names (J.Oper ns xs d) = ns
-
--- judgements clash with those of their own sort: each keyword of linearizations by itself, all others
-abbrev pub sort_of : Judgement → Option Keyword
-sort_of (J.Lincat ns T) = Some K.Lincat
-sort_of (J.Lin ns xs e) = Some K.Lin
-sort_of (J.Lindef ns xs e) = Some K.Lindef
-sort_of (J.Linref ns xs e) = Some K.Linref
-sort_of j = None
-
 -- what a module declares, in order, each name with the sort of its judgement
 abbrev pub own_names : Module → List (Option Keyword × PlacedName)
 own_names m = flat_map (λ j. map (λ n. (sort_of j, n)) (placed_names j)) (judgements_of m)
 
--- what may be restricted: the functor of a with too
-abbrev pub restricted_of : Rest → List Inherited
-restricted_of (Own hs b) = hs
-restricted_of (Inherits hs) = hs
-restricted_of (With hs f ss b) = hs ++ f ∷ []
-
+-- the names that a restriction lists
 abbrev pub listed_names : Inherited → List PlacedName
 listed_names (Only n xs) = xs
 listed_names (Except n xs) = xs

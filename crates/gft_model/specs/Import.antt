@@ -1,21 +1,21 @@
 -- An import: what is broken in it, in its order, and what its files give.
 use Rattle.std.specs.FinMap.{get, remove}
 use Rattle.std.specs.List.{list_any}
-use Rattle.std.specs.Prelude.{◌≡◌, ◌↔◌, ℕ, ◌<◌, List, [], ◌∷◌, ◌++◌, flat_map, length, Bool, bytes_eq, Contains, Some, None, ◌≢◌, slice_get}
+use Rattle.std.specs.Prelude.{◌≡◌, ◌↔◌, ℕ, ◌<◌, List, [], ◌∷◌, ◌++◌, flat_map, length, Bool, bytes_eq, Contains, Option, Some, ◌≢◌, slice_get}
 use Rattle.gft_io.specs.Outside.{Files}
 use Rattle.gft_model.specs.AbstractFaults.{BreaksAbstract}
 use Rattle.gft_model.specs.AbstractParts.{IsAbstractPart}
 use Rattle.gft_model.specs.Commands.{EndsIn, portable_ending}
 use Rattle.gft_model.specs.CompileFaults.{BreaksCompiling}
 use Rattle.gft_model.specs.Compiled.{Compiles}
-use Rattle.gft_model.specs.Flats.{AreExactly, HasEntry, HasSomewhere, HasLinearization, categories, functions, parameters, opers}
+use Rattle.gft_model.specs.Flats.{AreListed, HasOfPart, IsFlat, categories, functions}
 use Rattle.gft_model.specs.HeaderFaults.{BreaksHeader, Redefines}
 use Rattle.gft_model.specs.InstanceFaults.{BreaksInstance}
 use Rattle.gft_model.specs.Items.{items_of}
-use Rattle.gft_model.specs.JudgementOrder.{Turns, IsListed, AreMet, AreEntries, typed_again, Listing}
+use Rattle.gft_model.specs.JudgementOrder.{Turns, HasTyped, HasNew, IsMet, typed_again}
 use Rattle.gft_model.specs.JudgementTyping.{IsTyped}
 use Rattle.gft_model.specs.Loading.{base_of, Loading, loaded, refused, LoadsNamed, nothing_loaded, HasFiles}
-use Rattle.gft_model.specs.Modules.{header_name, module_named, judgements_of}
+use Rattle.gft_model.specs.Modules.{header_mentions, names_of, header_name, module_named, judgements_of}
 use Rattle.gft_model.specs.NameFaults.{AreConstructors, BreaksNames, abstract_name}
 use Rattle.gft_model.specs.PortableFile
 use Rattle.gft_model.specs.Refusals.{Moment, IsFirst, IsAccepted, placeless}
@@ -39,16 +39,9 @@ abbrev pub most_categories : ℕ
 most_categories = 16384
 
 module _ (mods : List Module) where
-  -- what judgements of a module may name, and for a concrete one what its abstract module has
-  pub record IsView (m : Module) (flat : Flat) : Type 0 where
-    pub params : AreExactly mods flat.params (HasSomewhere mods parameters ((header_name m.header).name ∷ []))
-    pub opers_of : AreExactly mods flat.opers (HasSomewhere mods opers ((header_name m.header).name ∷ []))
-    pub without_abstract : abstract_name m.header ≡ None → (flat.cats ≡ []) × (flat.funs ≡ [])
-    pub cats : (A : List ℕ) → abstract_name m.header ≡ Some A → AreExactly mods flat.cats (HasEntry mods categories A)
-    pub funs : (A : List ℕ) → abstract_name m.header ≡ Some A → AreExactly mods flat.funs (HasEntry mods functions A)
-    pub language : List FlatJudgement
-    pub concretes : flat.concretes ≡ record { name = (header_name m.header).name; judgements = language } ∷ []
-    pub has : AreExactly mods language (HasLinearization mods (header_name m.header).name)
+  -- what judgements of a module may name: the resolved grammar of it and of its abstract module or interface
+  abbrev pub IsView : Module → Flat → Type 0
+  IsView m = IsFlat mods (names_of (header_mentions m.header) ++ (header_name m.header).name ∷ [])
 
   -- all judgements of a view
   abbrev pub entries_of : Flat → List FlatJudgement
@@ -57,23 +50,17 @@ module _ (mods : List Module) where
   -- the judgements of a module in the order in which they are typed: copies and own ones by their turns, with
   -- what they rest on of interfaces and incomplete modules, then those that are inherited, where they are typed again
   pub record HasOrder (m : Module) (es funs : List FlatJudgement) (order again : List FlatJudgement) : Type 0 where
-    pub inherited : Listing
-    pub copies : Listing
-    pub owned : Listing
-    pub listed : IsListed mods (header_name m.header).name inherited copies owned
-    pub own_entries : List FlatJudgement
-    pub are_own : AreEntries mods (abstract_name m.header) (copies ++ owned) own_entries
-    pub are_inherited : AreEntries mods (abstract_name m.header) inherited again
-    pub met : Listing
-    pub are_met : AreMet mods mods met
-    pub met_entries : List FlatJudgement
-    pub are_their_entries : AreEntries mods None met met_entries
-    pub turns : Turns es funs (own_entries ++ met_entries) [] own_entries order
+    pub new : List FlatJudgement
+    pub are_new : AreListed new (HasNew mods (abstract_name m.header) (header_name m.header).name)
+    pub met : List FlatJudgement
+    pub are_met : AreListed met (IsMet mods)
+    pub turns : Turns es funs (new ++ met) [] new order
+    pub are_inherited : AreListed again (λ at. HasTyped mods (abstract_name m.header) (header_name m.header).name (0 ∷ at))
 
   -- a function that a module leaves out of what it inherits
   abbrev pub LeftOut : List FlatJudgement → Whole → Type 0
   LeftOut funs w = ((e : FlatJudgement) → Contains funs e → e.whole ≢ w)
-      × ((e : FlatJudgement) × HasEntry mods functions w.«module» e × (e.whole ≡ w))
+      × ((at : Moment) × (e : FlatJudgement) × HasOfPart mods functions w.«module» at e × (e.whole ≡ w))
 
   -- a kind of module that is typed where it stands, not only in instances
   pub data IsTypedHere : Header → Type 0 where
@@ -88,7 +75,7 @@ module _ (mods : List Module) where
     in_names : {at r : _} (constructors : List ℕ → Bool) → AreConstructors mods m constructors →
         BreaksNames mods m constructors at r → BreaksModule named m (2 ∷ at) r
     in_abstract : {n : PlacedName} {cats funs order again k : _} {e : FlatJudgement} {at r : _} → m.header ≡ Abstract n →
-        AreExactly mods cats (HasEntry mods categories n.name) → AreExactly mods funs (HasEntry mods functions n.name) →
+        AreListed cats (HasOfPart mods categories n.name) → AreListed funs (HasOfPart mods functions n.name) →
         HasOrder m (cats ++ funs) [] order again → slice_get (order ++ again) k ≡ Some e →
         BreaksAbstract cats funs (LeftOut funs) e.judgement at r → BreaksModule named m (3 ∷ k ∷ at) r
     in_types : {flat : Flat} {order again k : _} {e : FlatJudgement} {at r : _} → IsTypedHere m.header → IsView m flat →
@@ -97,10 +84,10 @@ module _ (mods : List Module) where
     in_instance : {flat : Flat} {order again at r : _} → IsView m flat → HasOrder m (entries_of flat) flat.funs order again →
         BreaksInstance mods m flat order at r → BreaksModule named m (3 ∷ at) r
 
--- what typing gives stands in the grammar, for each judgement that has a type
-pub record AreTyped (flat : Flat) : Type 0 where
-  pub numbers : length flat.typed ≡ length (items_of flat)
-  pub typings : (k : ℕ) (t : Typed) → slice_get flat.typed k ≡ Some (Some t) ↔ IsTyped flat k t.term t.ctype
+-- what typing gives, for each judgement of the grammar that has a type
+pub record AreTypings (flat : Flat) (typings : List (Option Typed)) : Type 0 where
+  pub numbers : length typings ≡ length (items_of flat)
+  pub each : (k : ℕ) (t : Typed) → slice_get typings k ≡ Some (Some t) ↔ IsTyped flat k t.term t.ctype
 
 -- the abstract module of a named source
 pub data AbstractOf (mods : List Module) (file : List ℕ) : List ℕ → Type 0 where
@@ -116,15 +103,16 @@ is_named names m = list_any (λ file. bytes_eq (base_of file) (header_name m.hea
 -- the abstract syntax that a named file gives
 pub data HasPart (files : Files) (mods : List Module) (file : List ℕ) : AbstractSyntax → Type 0 where
   of_its_source : {A m cats funs a : _} → AbstractOf mods file A → module_named mods A ≡ Some m →
-      AreExactly mods cats (HasEntry mods categories A) → AreExactly mods funs (HasEntry mods functions A) →
+      AreListed cats (HasOfPart mods categories A) → AreListed funs (HasOfPart mods functions A) →
       IsAbstractPart cats funs (LeftOut mods funs) A (judgements_of m) a → HasPart files mods file a
   of_portable : {bytes : _} {g : Grammar} → EndsIn portable_ending file → get files file ≡ Some bytes →
       PortableFile.Reads bytes g → HasPart files mods file g.abs
 
 -- the language of a named source that is a concrete module: its grammar, with what typing gives
 pub data HasLanguage (mods : List Module) (file : List ℕ) : List ℕ → Flat → Type 0 where
-  of_module : {m : Module} {n : PlacedName} {a flat : _} → module_named mods (base_of file) ≡ Some m → m.header ≡ Concrete n a →
-      IsView mods m flat → AreTyped flat → HasLanguage mods file n.name flat
+  of_module : {m : Module} {n : PlacedName} {a flat typings : _} → module_named mods (base_of file) ≡ Some m →
+      m.header ≡ Concrete n a → IsView mods m flat → AreTypings flat typings →
+      HasLanguage mods file n.name (record flat { typed = typings })
 
 -- what is broken in an import of the named files, in order: loading, each module in turn, the number of
 -- categories, each language, and abstract modules that are not one
@@ -133,7 +121,7 @@ pub data BreaksImport (files : Files) (names : List (List ℕ)) : Moment → Ref
   in_module : {s : Loading} {i m at r : _} → LoadsNamed files nothing_loaded names (loaded s) → slice_get s.modules i ≡ Some m →
       BreaksModule s.modules (is_named names m) m at r → BreaksImport files names (1 ∷ i ∷ at) r
   too_many_categories : {s : Loading} {file A cats : _} → LoadsNamed files nothing_loaded names (loaded s) → Contains names file →
-      AbstractOf s.modules file A → AreExactly s.modules cats (HasEntry s.modules categories A) → most_categories < length cats →
+      AbstractOf s.modules file A → AreListed cats (HasOfPart s.modules categories A) → most_categories < length cats →
       BreaksImport files names (2 ∷ []) (placeless R.TooManyCategories [])
   in_language : {s : Loading} {i file lang flat at r : _} → LoadsNamed files nothing_loaded names (loaded s) →
       slice_get names i ≡ Some file → HasLanguage s.modules file lang flat → BreaksCompiling flat lang at r →

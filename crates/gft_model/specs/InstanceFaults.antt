@@ -20,11 +20,10 @@ use Rattle.gft_syntax.specs.declared.term.Term.{Term, roll-Term}
 use Rattle.gft_syntax.specs.declared.term.Term.TheOpen as T
 use Rattle.gft_model.specs.ConcreteTyping.{IsType, Stands, a_parameter, an_oper, an_overload}
 use Rattle.gft_model.specs.Flats.{AreMeanings, whole_of}
-use Rattle.gft_model.specs.HeaderFaults.{placed_names}
 use Rattle.gft_model.specs.Items.{Item, alternative}
 use Rattle.gft_model.specs.JudgementOrder.{answered}
 use Rattle.gft_model.specs.Matching.{same_whole}
-use Rattle.gft_model.specs.Modules.{Has, HasNameable, Writes, Declared, copy, main_name}
+use Rattle.gft_model.specs.Modules.{placed_names, Has, HasNameable, Writes, Declared, copy, main_name}
 use Rattle.gft_model.specs.Refusals.{Moment, refusal, name_moment}
 use Rattle.gft_model.specs.Resolution.{Names, resolved}
 use Rattle.gft_model.specs.TypeFaults.{BreaksSites}

@@ -3,6 +3,8 @@ use Rattle.std.specs.Prelude.{◌≡◌, ℕ, List, [], ◌∷◌, ◌++◌, map
 use Rattle.std.specs.List.{list_any}
 use Rattle.gft_syntax.specs.declared.judgement.Judgement.{Judgement}
 use Rattle.gft_syntax.specs.declared.judgement.Judgement.TheVariants as J
+use Rattle.gft_syntax.specs.declared.judgement.Keyword.{Keyword}
+use Rattle.gft_syntax.specs.declared.judgement.Keyword.TheVariants as K
 use Rattle.gft_syntax.specs.declared.module.Body.{Body}
 use Rattle.gft_syntax.specs.declared.module.Header.{Header}
 use Rattle.gft_syntax.specs.declared.module.Header.TheVariants.{Abstract, Resource, Interface, Instance, Concrete, Incomplete}
@@ -16,6 +18,7 @@ use Rattle.gft_syntax.specs.declared.module.Rest.TheVariants.{Own, Inherits, Wit
 use Rattle.gft_syntax.specs.declared.module.Substitution.{Substitution}
 use Rattle.gft_syntax.specs.declared.reference.PlacedName.{PlacedName}
 use Rattle.gft_model.specs.JudgementTyping.{list_name}
+use Rattle.gft_model.specs.Refusals.{Moment}
 
 -- the name of a module
 abbrev pub header_name : Header → PlacedName
@@ -25,6 +28,24 @@ header_name (Interface n) = n
 header_name (Instance n i) = n
 header_name (Concrete n a) = n
 header_name (Incomplete n a) = n
+
+-- kinds of modules
+abbrev pub is_abstract : Header → Bool
+is_abstract (Abstract n) = true
+is_abstract h = false
+
+abbrev pub is_interface : Header → Bool
+is_interface (Interface n) = true
+is_interface h = false
+
+abbrev pub is_incomplete : Header → Bool
+is_incomplete (Incomplete n a) = true
+is_incomplete h = false
+
+abbrev pub is_concrete : Header → Bool
+is_concrete (Concrete n a) = true
+is_concrete (Incomplete n a) = true
+is_concrete h = false
 
 -- the module of that name
 abbrev pub module_named : List Module → List ℕ → Option Module
@@ -36,6 +57,12 @@ abbrev pub inherited_of : Rest → List Inherited
 inherited_of (Own hs b) = hs
 inherited_of (Inherits hs) = hs
 inherited_of (With hs f ss b) = hs
+
+-- what may be restricted: the functor of a with too
+abbrev pub restricted_of : Rest → List Inherited
+restricted_of (Own hs b) = hs
+restricted_of (Inherits hs) = hs
+restricted_of (With hs f ss b) = hs ++ f ∷ []
 
 -- its body, where it has one
 abbrev pub body_of : Rest → Option Body
@@ -83,45 +110,50 @@ header_mentions (Concrete n a) = a ∷ []
 header_mentions (Incomplete n a) = a ∷ []
 header_mentions h = []
 
--- what a module inherits, its functor, each interface with its instance
-abbrev pub rest_mentions : Rest → List PlacedName
-rest_mentions (Own hs b) = map inherited_at hs
-rest_mentions (Inherits hs) = map inherited_at hs
-rest_mentions (With hs f ss b) = map inherited_at hs ++ inherited_at f ∷ flat_map (λ s. s.interface ∷ s.instance ∷ []) ss
+-- what the parameters of a functor are given: each interface with its instance
+abbrev pub substitutions_of : Rest → List Substitution
+substitutions_of (With hs f ss b) = ss
+substitutions_of r = []
 
 -- the modules that a module names, in the order of the text, in which they are loaded
 abbrev pub mentions : Module → List PlacedName
-mentions m = header_mentions m.header ++ rest_mentions m.rest ++ map opened_at (opened_of m)
+mentions m =
+    header_mentions m.header ++ map inherited_at (restricted_of m.rest)
+    ++ flat_map (λ s. s.interface ∷ s.instance ∷ []) (substitutions_of m.rest) ++ map opened_at (opened_of m)
 
 -- names without their places
 abbrev pub names_of : List PlacedName → List (List ℕ)
 names_of ns = map (λ n. n.name) ns
 
--- the names that a judgement declares; a flag is no name
-abbrev pub declared_names : Judgement → List (List ℕ)
-declared_names (J.Cat n cs) = n.name ∷ []
-declared_names (J.ListCat n r k place) =
-    list_name n.name ∷ (codes "Base" ++ n.name) ∷ (codes "Cons" ++ n.name) ∷ []
-declared_names (J.Fun ns T) = names_of ns
-declared_names (J.Flag n v) = []
-declared_names (J.Lincat ns T) = names_of ns
-declared_names (J.Lin ns xs e) = names_of ns
-declared_names (J.Lindef ns xs e) = names_of ns
-declared_names (J.Linref ns xs e) = names_of ns
-declared_names (J.ParamName n) = n.name ∷ []
-declared_names (J.Param n cs) = n.name ∷ map (λ c. c.name.name) cs
-declared_names (J.OperType ns T) = names_of ns
-declared_names (J.OperTyped ns T d) = names_of ns
-declared_names (J.Oper ns xs d) = names_of ns
+-- the names that a judgement declares, at their places; a flag is no name
+abbrev pub placed_names : Judgement → List PlacedName
+placed_names (J.Cat n cs) = n ∷ []
+placed_names (J.ListCat n r k place) =
+    map (λ x. record { name = x; place = place })
+    (list_name n.name ∷ (codes "Base" ++ n.name) ∷ (codes "Cons" ++ n.name) ∷ [])
+placed_names (J.Fun ns T) = ns
+placed_names (J.Flag n v) = []
+placed_names (J.Lincat ns T) = ns
+placed_names (J.Lin ns xs e) = ns
+placed_names (J.Lindef ns xs e) = ns
+placed_names (J.Linref ns xs e) = ns
+placed_names (J.ParamName n) = n ∷ []
+placed_names (J.Param n cs) = n ∷ map (λ c. c.name) cs
+placed_names (J.OperType ns T) = ns
+placed_names (J.OperTyped ns T d) = ns
+placed_names (J.Oper ns xs d) = ns
 
--- terms name no linearization
-abbrev pub is_nameable : Judgement → Bool
-is_nameable (J.Lincat ns T) = false
-is_nameable (J.Lin ns xs e) = false
-is_nameable (J.Lindef ns xs e) = false
-is_nameable (J.Linref ns xs e) = false
-is_nameable (J.Flag n v) = false
-is_nameable j = true
+-- the same without the places
+abbrev pub declared_names : Judgement → List (List ℕ)
+declared_names j = names_of (placed_names j)
+
+-- judgements clash with those of their own sort: each keyword of linearizations by itself, all others
+abbrev pub sort_of : Judgement → Option Keyword
+sort_of (J.Lincat ns T) = Some K.Lincat
+sort_of (J.Lin ns xs e) = Some K.Lin
+sort_of (J.Lindef ns xs e) = Some K.Lindef
+sort_of (J.Linref ns xs e) = Some K.Linref
+sort_of j = None
 
 -- a declaration that leaves the definition to instances
 abbrev pub is_undefined : Judgement → Bool
@@ -180,12 +212,19 @@ module _ (mods : List Module) where
     instantiates : {M x : _} {m : Module} {hs f ss b d : _} → Is M m → m.rest ≡ With hs f ss b → lets_through f x ≡ true →
         Has (inherited_name f) x d → Has M x (copy M d)
 
-  -- the module has a judgement under the name that terms may name
+  -- its turn there: what is inherited comes first, in the order of the header, then the copies, then its own
+  abbrev pub turn : {M x : List ℕ} {d : Declared} → Has M x d → Moment
+  turn (inherits is c l h) = 0 ∷ c.0 ∷ turn h
+  turn (keeps is e h w u n) = 1 ∷ turn h
+  turn (instantiates is e l h) = 2 ∷ turn h
+  turn (declares k is g c) = 3 ∷ k ∷ c.0 ∷ []
+
+  -- the module has a judgement under the name that terms may name: no linearization
   pub record HasNameable (M x : List ℕ) (d : Declared) : Type 0 where
     pub has : Has M x d
     pub text : Judgement
     pub writes : Writes d text
-    pub nameable : is_nameable text ≡ true
+    pub nameable : sort_of text ≡ None
 
   -- a module that is opened under a name: an alias, or its own
   pub data OpensAs : Module → List ℕ → List ℕ → Type 0 where

@@ -26,9 +26,9 @@ use Rattle.gft_syntax.specs.declared.term.Term.TheOpen as T
 use Rattle.gft_syntax.specs.declared.term.Term.TheFolds.{para-Term}
 use Rattle.gft_syntax.specs.Terms.{Layer}
 use Rattle.gft_model.specs.Flats.{Part, categories, functions, part_of}
-use Rattle.gft_model.specs.HeaderFaults.{is_abstract, own_names}
+use Rattle.gft_model.specs.HeaderFaults.{own_names}
 use Rattle.gft_model.specs.JudgementTyping.{list_name}
-use Rattle.gft_model.specs.Modules.{opened_at, Has, HasNameable, Writes, OpensAs, Sees, SeesQualified, Declared, header_name, judgements_of, opened_of}
+use Rattle.gft_model.specs.Modules.{is_abstract, opened_at, Has, HasNameable, Writes, OpensAs, Sees, SeesQualified, Declared, header_name, judgements_of, opened_of}
 use Rattle.gft_model.specs.Refusals.{Moment, Before, refusal, place_moment}
 use Rattle.gft_model.specs.Resolution.{Locals, is_local}
 use Rattle.gft_syntax.specs.Parts.{Part as TermPart, parts, patterns_in, judgement_parts}

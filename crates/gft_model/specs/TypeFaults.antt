@@ -24,7 +24,6 @@ use Rattle.gft_syntax.specs.Terms.{Layer, place_of}
 use Rattle.gft_model.specs.ConcreteTypes.{field_of, is_finite, count_of, values_of, IsSubtype}
 use Rattle.gft_model.specs.ConcreteTyping.{IsType, IsParameter, IsDomain, Fits, Checks, FindsAll, Suits, Stands, an_oper, passes, is_record, most_values, patterns}
 use Rattle.gft_model.specs.Grammar.{is_value}
-use Rattle.gft_model.specs.HeaderFaults.{placed_names}
 use Rattle.gft_model.specs.Items.{bare_parameter}
 use Rattle.gft_model.specs.JudgementTyping.{IsSort}
 use Rattle.gft_model.specs.Matching.{match_of, is_matched, parameter}
@@ -34,6 +33,7 @@ use Rattle.gft_model.specs.Resting.{Rests, answers_to}
 use Rattle.gft_model.specs.TypeForms.{form, str_type, number_type, sort_type, table_type, functions}
 use Rattle.gft_model.specs.TypeTexts.{type_text, param_text}
 use Rattle.gft_model.specs.TypingSites.{Mode, found, given, given_own, as_type, over, unasked, Role, data_wanted, finite_wanted, selected, a_term, a_pattern, Site, term_mode, fields_in, table_in, function_in, value_mode, labelled, Binds, items, FoundFor, HasOverload, IsOverloaded, IsConstructorOf, StandsIn, judgement_sites}
+use Rattle.gft_model.specs.Modules.{placed_names}
 
 -- forms that need a type to be given: a lambda, \\, a table without its type, variants {}
 abbrev pub needs_type : Layer → Bool
