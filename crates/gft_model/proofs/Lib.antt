@@ -18,6 +18,7 @@ pub mod ModuleLaws
 pub mod SpellingExamples
 pub mod ModuleExamples
 pub mod FlatExamples
+pub mod FlatLaws
 pub mod TermTreeExamples
 pub mod CompiledExamples
 pub mod CaseLaws

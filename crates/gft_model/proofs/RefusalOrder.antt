@@ -11,7 +11,7 @@ never_itself within e = cc
 never_itself (sooner {m = m} {n = n} h) e = let f : m ≡ n = cc in omega (arith, f, h)
 never_itself (later_on {p = p} {q = q} b) e = let f : p ≡ q = cc in never_itself b f
 
-never_both : {p q r s : Moment} → Before p q → Before r s → p ≡ s → q ≡ r → ⊥
+pub never_both : {p q r s : Moment} → Before p q → Before r s → p ≡ s → q ≡ r → ⊥
 never_both within within e f = cc
 never_both within (sooner k) e f = cc
 never_both within (later_on c) e f = cc

@@ -13,6 +13,7 @@ use Rattle.gft_syntax.specs.declared.term.Term.{Term}
 use Rattle.gft_syntax.specs.declared.token.SourceToken.{SourceToken}
 use Rattle.gft_model.specs.ConcreteTypes.{values_of, count_of, cases_of}
 use Rattle.gft_model.specs.ConcreteTyping.{IsType, Finds, Checks}
+use Rattle.gft_model.specs.Flats.{IsFlat}
 use Rattle.gft_model.specs.Grammar.{Level, PatternLevel, SpellsTerm, SpellsPattern}
 use Rattle.gft_model.specs.ModuleGrammar.{SpellsJudgement, SpellsSlice, SpellsModule}
 use Rattle.gft_model.specs.Items.{Item, lincat}
@@ -101,3 +102,8 @@ abbrev pub JudgementIsDetermined : Type 0
 JudgementIsDetermined =
     (flat : Flat) → HasOneLincat flat → (k : ℕ) (t u : LinTerm) (T U : CType) →
     IsTyped flat k t T → IsTyped flat k u U → (t ≡ u) × (T ≡ U)
+
+-- modules and chosen names have at most one resolved grammar
+abbrev pub ResolvedGrammarIsDetermined : Type 0
+ResolvedGrammarIsDetermined =
+    (mods : List Module) (chosen : List (List ℕ)) (f g : Flat) → IsFlat mods chosen f → IsFlat mods chosen g → f ≡ g

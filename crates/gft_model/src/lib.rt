@@ -21,8 +21,8 @@ pub use laws::{
 pub use refusals::first_refusal_is_unique;
 pub use sources::{
     alternatives_in_order, cases_are_in_order, found_type_is_determined, judgement_is_determined,
-    meaning_is_determined, no_variants, pattern_fits_once, spelled_judgement_is_determined,
-    spelled_module_is_determined, spelled_pattern_is_determined, spelled_slice_is_determined,
-    spelled_term_is_determined, tokens_are_determined, values_are_counted,
-    written_type_is_determined,
+    meaning_is_determined, no_variants, pattern_fits_once, resolved_grammar_is_determined,
+    spelled_judgement_is_determined, spelled_module_is_determined, spelled_pattern_is_determined,
+    spelled_slice_is_determined, spelled_term_is_determined, tokens_are_determined,
+    values_are_counted, written_type_is_determined,
 };

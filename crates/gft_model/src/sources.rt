@@ -1,5 +1,5 @@
 //! Laws of the definitions over sources. Each function does nothing; its clause is the law.
-ghost use Rattle.gft_model.specs.SourceLaws.{TokensAreDetermined, SpelledTermIsDetermined, SpelledPatternIsDetermined, SpelledJudgementIsDetermined, SpelledSliceIsDetermined, SpelledModuleIsDetermined, AlternativesInOrder, NoVariants, ValuesAreCounted, CasesAreInOrder, PatternFitsOnce, WrittenTypeIsDetermined, FoundTypeIsDetermined, MeaningIsDetermined, JudgementIsDetermined};
+ghost use Rattle.gft_model.specs.SourceLaws.{TokensAreDetermined, SpelledTermIsDetermined, SpelledPatternIsDetermined, SpelledJudgementIsDetermined, SpelledSliceIsDetermined, SpelledModuleIsDetermined, AlternativesInOrder, NoVariants, ValuesAreCounted, CasesAreInOrder, PatternFitsOnce, WrittenTypeIsDetermined, FoundTypeIsDetermined, MeaningIsDetermined, JudgementIsDetermined, ResolvedGrammarIsDetermined};
 
 /// A file has at most one list of tokens.
 pub fn tokens_are_determined()
@@ -75,4 +75,9 @@ pub fn meaning_is_determined()
 /// A judgement has at most one typing, where each language has one lincat of a category.
 pub fn judgement_is_determined()
     ensures { JudgementIsDetermined }
+{}
+
+/// Modules and chosen names have at most one resolved grammar.
+pub fn resolved_grammar_is_determined()
+    ensures { ResolvedGrammarIsDetermined }
 {}
