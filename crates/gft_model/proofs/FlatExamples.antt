@@ -61,22 +61,32 @@ module _ (p : Place) (T e : Term) where
   had (declares {x = x} k {j = j} is g c) =
       let only = own_only k (subst (λ m. slice_get (judgements_of m) k ≡ Some j) (is_r2 is) g) in
       (one_of (subst (λ i. Contains (declared_names i) x) (sym only.1) c), ap (own (codes "R2")) only.0)
-  had (inherits is (k, b, f) l h) = absurd (let none = ap (λ m. length (inherited_of m.rest)) (is_r2 is) in omega (arith, b, none))
+  had (inherits is (k, b, f) l h) =
+      absurd (let none = ap (λ m. length (inherited_of m.rest)) (is_r2 is) in omega (arith, b, none))
   had (keeps is f h w u o) = let same = ap (λ m. m.header) (is_r2 is) in cc
   had (instantiates is f l h) = let same = ap (λ m. m.rest) (is_r2 is) in cc
 
   has_mk : HasNameable mods (codes "R2") mk (own (codes "R2") 0)
-  has_mk = record { has = declares 0 refl refl (0, omega arith, refl); text = text; writes = own_text 0 refl refl; nameable = refl }
+  has_mk = record {
+    has = declares 0 refl refl (0, omega arith, refl);
+    text = text;
+    writes = own_text 0 refl refl;
+    nameable = refl;
+  }
 
   -- what names mean there
   meant : {x : List ℕ} {d : Declared} → Means mods (own (codes "R2") 0) (bare x) d → (mk ≡ x) × (d ≡ own (codes "R2") 0)
   meant (own_name k (at_home h)) = had h.has
-  meant (own_name k (from_opened is n (i, b, f) h)) = absurd (let none = ap (λ m. length (opened_of m)) (is_r2 is) in omega (arith, b, none))
+  meant (own_name k (from_opened is n (i, b, f) h)) =
+      absurd (let none = ap (λ m. length (opened_of m)) (is_r2 is) in omega (arith, b, none))
 
   unqualified : {Q x : List ℕ} {d : Declared} → Means mods (own (codes "R2") 0) (qualified Q x) d → ⊥
-  unqualified (own_qualified k (from_named is (plainly (i, b, f)) h)) = let none = ap (λ m. length (opened_of m)) (is_r2 is) in omega (arith, b, none)
-  unqualified (own_qualified k (from_named is (by_alias (i, b, f)) h)) = let none = ap (λ m. length (opened_of m)) (is_r2 is) in omega (arith, b, none)
-  unqualified (own_qualified k (from_named is (by_name (i, b, f)) h)) = let none = ap (λ m. length (opened_of m)) (is_r2 is) in omega (arith, b, none)
+  unqualified (own_qualified k (from_named is (plainly (i, b, f)) h)) =
+      let none = ap (λ m. length (opened_of m)) (is_r2 is) in omega (arith, b, none)
+  unqualified (own_qualified k (from_named is (by_alias (i, b, f)) h)) =
+      let none = ap (λ m. length (opened_of m)) (is_r2 is) in omega (arith, b, none)
+  unqualified (own_qualified k (from_named is (by_name (i, b, f)) h)) =
+      let none = ap (λ m. length (opened_of m)) (is_r2 is) in omega (arith, b, none)
 
   abbrev names : Names
   names = record {
@@ -107,13 +117,15 @@ module _ (p : Place) (T e : Term) where
       }
   bare_to x w false h k = cc
 
-  bare_from : (x : List ℕ) (w : Whole) → IsMeaning mods here (bare x) w → (if bytes_eq mk x then Some (whole_of mk here) else None) ≡ Some w
+  bare_from : (x : List ℕ) (w : Whole) → IsMeaning mods here (bare x) w
+      → (if bytes_eq mk x then Some (whole_of mk here) else None) ≡ Some w
   bare_from x w h =
       let m = meant h.means in
       ap (λ b. if b then Some (whole_of mk here) else None) (ap (bytes_eq mk) (sym m.0))
       ∙ ap Some (same_whole m.0 m.1 ∙ sym (h.only_one h.some_meaning h.means))
 
-  no_constructor : (x : List ℕ) → ((d : Declared) × (j : Judgement) × Means mods here (bare x) d × Writes mods d j × IsConstructor j x) → false ≡ true
+  no_constructor : (x : List ℕ) → ((d : Declared) × (j : Judgement) × Means mods here (bare x) d × Writes mods d j
+      × IsConstructor j x) → false ≡ true
   no_constructor x (d, j, m, w, (n, cs, c, k)) =
       let same : text ≡ J.Param n cs = written_only (subst (λ f. Writes mods f j) (meant m).1 w) ∙ c in cc
 
@@ -127,9 +139,11 @@ module _ (p : Place) (T e : Term) where
   names_once : (n : Names) → AreMeanings mods here n → n ≡ names
   names_once n m =
       let b : n.bare ≡ names.bare =
-      agree (λ x. same_option (n.bare x) (names.bare x) (λ w h. bare_from x w ((m.of_bare x w).0 h)) (λ w h. (m.of_bare x w).1 (bare_to x w (bytes_eq mk x) refl h))) in
+      agree (λ x. same_option (n.bare x) (names.bare x) (λ w h. bare_from x w ((m.of_bare x w).0 h)) (λ w h. (m.of_bare x w).1
+          (bare_to x w (bytes_eq mk x) refl h))) in
       let q : n.qualified ≡ names.qualified =
-      agree (λ Q. agree (λ x. same_option (n.qualified Q x) None (λ w h. absurd (unqualified ((m.of_qualified Q x w).0 h).means)) (λ w h. cc))) in
+      agree (λ Q. agree (λ x. same_option (n.qualified Q x) None (λ w h. absurd (unqualified ((m.of_qualified Q x w).0
+          h).means)) (λ w h. cc))) in
       let c : n.is_constructor ≡ names.is_constructor =
       agree (λ x. same_test (n.is_constructor x) false (λ h. no_constructor x ((m.of_constructors x).0 h)) (λ h. cc)) in
       λ i. record { bare = b i; qualified = q i; is_constructor = c i }
@@ -138,13 +152,15 @@ module _ (p : Place) (T e : Term) where
   entry = record { whole = whole_of mk here; judgement = resolved_judgement names (alone mk text) }
 
   entry_of_mk : IsEntry mods mk here entry
-  entry_of_mk = record { text = text; writes = own_text 0 refl refl; names = names; meanings = meanings; whole = refl; judgement = refl }
+  entry_of_mk = record { text = text; writes = own_text 0 refl refl; names = names; meanings = meanings; whole = refl;
+      judgement = refl }
 
   rests : {M : List ℕ} → RestsOn mods (codes "R2") M → codes "R2" ≡ M
   rests itself = refl
   rests (through is (k, b, f) r) = absurd (let none = ap (λ m. length (mentions m)) (is_r2 is) in omega (arith, b, none))
 
-  only_entry : {g : Part} {M : List ℕ} {at : Moment} {f : FlatJudgement} → codes "R2" ≡ M → HasOfPart mods g M at f → (g ≡ opers) × (f ≡ entry)
+  only_entry : {g : Part} {M : List ℕ} {at : Moment} {f : FlatJudgement} → codes "R2" ≡ M → HasOfPart mods g M at f
+      → (g ≡ opers) × (f ≡ entry)
   only_entry {g} {f = f} same h =
       let i = h.entry in
       let hd = had (subst (λ N. Has mods N h.name h.declared) (sym same) h.has) in
@@ -154,7 +170,8 @@ module _ (p : Place) (T e : Term) where
       let whole : f.whole ≡ entry.whole = i.whole ∙ sym (same_whole main hd.1) in
       let judgement : f.judgement ≡ entry.judgement =
       i.judgement
-      ∙ ap (λ n. resolved_judgement n (alone (main_name h.judgement h.name) i.text)) (names_once i.names (subst (λ c. AreMeanings mods c i.names) hd.1 i.meanings))
+      ∙ ap (λ n. resolved_judgement n (alone (main_name h.judgement h.name) i.text)) (names_once i.names (subst (λ c.
+          AreMeanings mods c i.names) hd.1 i.meanings))
       ∙ ap (λ y. resolved_judgement names (alone y i.text)) (sym main)
       ∙ ap (λ t. resolved_judgement names (alone mk t)) (sym (written_only (subst (λ c. Writes mods c i.text) hd.1 i.writes))) in
       (cc, λ k. record { whole = whole k; judgement = judgement k })
@@ -168,9 +185,11 @@ module _ (p : Place) (T e : Term) where
   abbrev flat : Flat
   flat = record { name = None; start = None; cats = []; funs = []; params = []; opers = entry ∷ []; concretes = []; typed = [] }
 
-  nothing : {es : List FlatJudgement} {P : Moment → FlatJudgement → Type 0} → es ≡ [] → ((at : Moment) (f : FlatJudgement) → ¬ P at f) → AreListed es P
+  nothing : {es : List FlatJudgement} {P : Moment → FlatJudgement → Type 0} → es ≡ [] → ((at : Moment) (f : FlatJudgement)
+      → ¬ P at f) → AreListed es P
   nothing {es} e lacks = record {
-    all = λ f. (λ c. let none = ap (λ (fs : List FlatJudgement). length fs) e in absurd (omega (arith, c.1, none)), λ h. absurd (lacks h.0 f h.1));
+    all = λ f. (λ c. let none = ap (λ (fs : List FlatJudgement). length fs) e in
+        absurd (omega (arith, c.1, none)), λ h. absurd (lacks h.0 f h.1));
     in_order = λ i j d a b. let none = ap (λ (fs : List FlatJudgement). length fs) e in absurd (omega (arith, b, none));
   }
 
@@ -189,7 +208,8 @@ module _ (p : Place) (T e : Term) where
     itself,
     (3 ∷ 0 ∷ 0 ∷ []),
     refl,
-    record { name = mk; declared = here; judgement = text; has = declares 0 refl refl (0, omega arith, refl); turn_is = refl; writes = own_text 0 refl refl; taken = refl; entry = entry_of_mk },
+    record { name = mk; declared = here; judgement = text; has = declares 0 refl refl (0, omega arith, refl); turn_is = refl;
+        writes = own_text 0 refl refl; taken = refl; entry = entry_of_mk },
   )
 
   -- the grammar has the one oper and no abstract part
@@ -201,7 +221,8 @@ module _ (p : Place) (T e : Term) where
     funs_of = nothing refl (no_abstract functions);
     params_of = nothing refl no_parameter;
     opers_of = record {
-      all = λ f. (λ c. subst (λ g. (at : Moment) × HasSomewhere mods opers chosen at g) (one_of c) (_, has_entry), λ h. (0, omega arith, sym (somewhere h.1).1));
+      all = λ f. (λ c. subst (λ g. (at : Moment) × HasSomewhere mods opers chosen at g) (one_of c) (_, has_entry), λ h. (0,
+          omega arith, sym (somewhere h.1).1));
       in_order = λ i j d a b. absurd (omega (arith, a, b));
     };
     languages = refl;

@@ -1,7 +1,7 @@
 -- The resolved grammar of modules: every judgement that counts, under its whole name, with each name
 -- in it replaced by what it means.
-use Rattle.std.specs.Prelude.{◌≡◌, ℕ, List, [], ◌∷◌, ◌++◌, map, filter, Bool, true, false, not, ◌&&◌, ◌↔◌, bytes_eq, codes, Contains, AllPairs, Option, Some, None, option_map, option_and_then, if◌then◌else◌}
-use Rattle.std.specs.List.{list_any}
+use Rattle.std.specs.Prelude.{◌≡◌, ℕ, List, [], ◌∷◌, ◌++◌, map, filter, filter_map, unwrap_or, Bool, true, false, not, ◌&&◌, ◌↔◌, bytes_eq, codes, Contains, AllPairs, Option, Some, None, option_map, option_and_then, if◌then◌else◌}
+use Rattle.std.specs.List.{list_any, last_or}
 use Rattle.std.specs.Cmp.Lexicographic.{slice_cmp}
 use Rattle.std.specs.Ordering.{nat_cmp}
 use Rattle.std.specs.declared.cmp.Ordering.TheVariants.{Less, Equal, Greater}
@@ -82,12 +82,6 @@ flag_value cats (J.Flag n (V.Name C)) =
     if bytes_eq n.name (codes "startcat") && is_category cats C then Some C else None
 flag_value cats j = None
 
--- the last of them, or what was found before
-abbrev pub last_value : List (List ℕ) → List Judgement → Option (List ℕ) → Option (List ℕ)
-last_value cats [] found = found
-last_value cats (j ∷ js) found =
-    last_value cats js (elim (flag_value cats j) [ Some C ↦ Some C | None ↦ found ])
-
 -- the first of names in byte order
 abbrev pub first_name : List ℕ → List (List ℕ) → List ℕ
 first_name C [] = C
@@ -100,7 +94,7 @@ default_start (C ∷ Cs) = if list_any (bytes_eq (codes "S")) (C ∷ Cs) then co
 
 -- the start category, by the last flag of the module itself that names one
 abbrev pub start_of : List (List ℕ) → List Judgement → List ℕ
-start_of cats js = elim (last_value cats js None) [ Some C ↦ C | None ↦ default_start cats ]
+start_of cats js = unwrap_or (last_or None (filter_map (flag_value cats) js)) (default_start cats)
 
 module _ (mods : List Module) where
   -- the abstract module among some: the first
@@ -174,16 +168,16 @@ module _ (mods : List Module) where
       (C : List ℕ) × (M : List ℕ) × (c : Contains chosen C) × (r : RestsOn C M) × (there : Moment)
       × (at ≡ c.0 ∷ loading_turn r ++ there) × HasOfPart p M there e
 
-  -- the abstract module has the category or the function that a judgement of a language is of
+  -- the abstract module of M has the category or the function that a judgement is of
   abbrev pub IsOf : List ℕ → List ℕ → Judgement → Type 0
-  IsOf A x j = (p : Part) × (d : Declared) × (k : Judgement)
-      × (linearized_part j ≡ Some p) × Has mods A x d × Writes mods d k × (part_of x k ≡ Some p)
+  IsOf M x j = (m : Module) × (A : PlacedName) × (d : Declared) × (k : Judgement) × (p : Part)
+      × Is mods M m × Contains (header_mentions m.header) A × Has mods A.name x d × Writes mods d k
+      × (part_of x k ≡ Some p) × (linearized_part j ≡ Some p)
 
   -- what a concrete module says of the categories and functions of its abstract module; what it says of
   -- others is no part of the language
   abbrev pub HasLinearization : List ℕ → Moment → FlatJudgement → Type 0
-  HasLinearization M = HasEntry
-      (λ x j. (m : Module) × (A : PlacedName) × Is mods M m × Contains (header_mentions m.header) A × IsOf A.name x j) (λ j x. x) M
+  HasLinearization M = HasEntry (IsOf M) (λ j x. x) M
 
 -- the first turn of the one comes before all turns of the other
 abbrev pub Precedes : (Moment → FlatJudgement → Type 0) → FlatJudgement → FlatJudgement → Type 0

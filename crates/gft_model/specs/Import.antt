@@ -104,7 +104,7 @@ is_named names m = list_any (λ file. bytes_eq (base_of file) (header_name m.hea
 pub data HasPart (files : Files) (mods : List Module) (file : List ℕ) : AbstractSyntax → Type 0 where
   of_its_source : {A m cats funs a : _} → AbstractOf mods file A → module_named mods A ≡ Some m →
       AreListed cats (HasOfPart mods categories A) → AreListed funs (HasOfPart mods functions A) →
-      IsAbstractPart cats funs (LeftOut mods funs) A (judgements_of m) a → HasPart files mods file a
+      IsAbstractPart cats funs (LeftOut mods funs) a A (judgements_of m) → HasPart files mods file a
   of_portable : {bytes : _} {g : Grammar} → EndsIn portable_ending file → get files file ≡ Some bytes →
       PortableFile.Reads bytes g → HasPart files mods file g.abs
 
