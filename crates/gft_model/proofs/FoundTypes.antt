@@ -71,7 +71,7 @@ apart-tags m n h e = apart (sym h ∙ (ap (λ (k : ℕ). m == k) (sym e) ∙ eq-
 spine_is_app : {e f a : Term} {es : List Term} → Spine e [] f (a ∷ es) → (g : Term) × (b : Term) × (p : Place) × (form e ≡ F.App g b p)
 spine_is_app (applied_to {f = g} {a = b} {place = p} h s) = (g, b, p, h)
 
-spine-once : {e d f g : Term} {es ds xs ys : List Term} → Spine e es f xs → Spine d ds g ys → e ≡ d → es ≡ ds → (f ≡ g) × (xs ≡ ys)
+pub spine-once : {e d f g : Term} {es ds xs ys : List Term} → Spine e es f xs → Spine d ds g ys → e ≡ d → es ≡ ds → (f ≡ g) × (xs ≡ ys)
 spine-once (applied_to h s) (applied_to k r) e f = spine-once s r (cc) (cc)
 spine-once (applied_to h s) (at_head n) e f = absurd (n _ _ _ (ap form (sym e) ∙ h))
 spine-once (at_head n) (applied_to k r) e f = absurd (n _ _ _ (ap form e ∙ k))

@@ -82,6 +82,7 @@ pub mod TokenLaws
 pub mod RefusalExamples
 pub mod CompileRefusalExamples
 pub mod NameRefusalExamples
+pub mod AbstractLaws
 pub mod AbstractRefusalExamples
 pub mod TypeRefusalExamples
 pub mod RefusalOrder

@@ -313,7 +313,7 @@ module _ {files : Files} where
   portable_apart e h x (Loading.is_invalid {flaw} {offset} f k y) =
       not_invalid x (subst (λ b. PortableFile.IsInvalid b flaw offset) (one_of e f) y)
 
-  named_once : {s : Loading} {names : List (List ℕ)} {o p : Outcome} → LoadsNamed files s names o
+  pub named_once : {s : Loading} {names : List (List ℕ)} {o p : Outcome} → LoadsNamed files s names o
       → LoadsNamed files s names p → o ≡ p
   named_once Loading.none_named Loading.none_named = refl
   named_once (Loading.known e l d) (Loading.known f k g) = named_once d g

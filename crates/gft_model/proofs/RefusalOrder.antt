@@ -6,7 +6,7 @@ use Rattle.gft_rules.specs.declared.refusal.Refusal.{Refusal}
 use Rattle.gft_model.specs.Refusals.{Moment, Before, within, sooner, later_on, Earlier, by_moment, by_number, IsFirst}
 
 -- no moment comes before itself, and of two only one before the other
-never_itself : {p q : Moment} → Before p q → p ≡ q → ⊥
+pub never_itself : {p q : Moment} → Before p q → p ≡ q → ⊥
 never_itself within e = cc
 never_itself (sooner {m = m} {n = n} h) e = let f : m ≡ n = cc in omega (arith, f, h)
 never_itself (later_on {p = p} {q = q} b) e = let f : p ≡ q = cc in never_itself b f

@@ -26,7 +26,7 @@ module _ {A : Type 0} (R : A → A → Type 0) where
   tail_in_order : (x : A) (xs : List A) → AllPairs R (x ∷ xs) → AllPairs R xs
   tail_in_order x xs o i j d l m = o (suc i) (suc j) d (omega (arith, l)) (omega (arith, m))
 
-  head_first : (x z : A) (xs : List A) → AllPairs R (x ∷ xs) → Contains xs z → R x z
+  pub head_first : (x z : A) (xs : List A) → AllPairs R (x ∷ xs) → Contains xs z → R x z
   head_first x z xs o (k, b, e) = subst (R x) e (o zero (suc k) z (omega arith) (omega (arith, b)))
 
   -- an item is the first, or one of the others

@@ -1,35 +1,114 @@
--- The imports of the language are determined, where one is chosen of the resolved grammars of each source.
-use Rattle.std.proofs.Common.{◌≡◌, sym, ◌∙◌, ℕ, List}
+-- The imports of the language are determined.
+use Rattle.std.proofs.Common.{◌≡◌, sym, ap, ◌∙◌, subst, ℕ, List, [], ◌∷◌, Some}
 use Rattle.std.specs.Prelude.{map}
-use Rattle.gft_pmcfg.specs.declared.concrete.Concrete.{Concrete}
 use Rattle.gft_io.specs.Outside.{Files}
-use Rattle.gft_model.proofs.LoadingLaws.{endings_apart, one_list_of_files}
-use Rattle.gft_model.proofs.NoFlaw.{reads_once}
-use Rattle.gft_model.specs.AnswerLaws.{choosing}
-use Rattle.gft_model.specs.Import.{BreaksImport}
-use Rattle.gft_model.proofs.RefusalOrder.{first-once}
-use Rattle.gft_model.specs.States.{Loaded, of_file, Gives, source, portable}
+use Rattle.gft_pmcfg.specs.declared.concrete.Concrete.{Concrete}
+use Rattle.gft_pmcfg.specs.declared.signature.Abstract.{Abstract as AbstractSyntax}
+use Rattle.gft_syntax.specs.declared.flat.Flat.{Flat}
+use Rattle.gft_syntax.specs.declared.module.Header.TheVariants.{Abstract}
+use Rattle.gft_syntax.specs.declared.module.Module.{Module}
+use Rattle.gft_syntax.specs.declared.reference.PlacedName.{PlacedName}
+use Rattle.gft_model.specs.Commands.{EndsIn, source_ending}
+use Rattle.gft_model.specs.AbstractParts.{IsAbstractPart}
+use Rattle.gft_model.specs.Flats.{AreListed, HasOfPart, categories, functions}
+use Rattle.gft_model.specs.Import.{BreaksImport, sources, AbstractOf, itself, of_concrete, HasPart, of_its_source, of_portable, HasLanguage, of_module, GivesPart, abstract_part, with_language, LeftOut, IsView, AreTypings}
+use Rattle.gft_model.specs.Loading.{Loading, base_of, loaded, LoadsNamed, nothing_loaded}
+use Rattle.gft_model.specs.Modules.{module_named, judgements_of}
+use Rattle.gft_model.specs.States.{Loaded, of_file, of_source, Gives, source, portable}
+use Rattle.gft_model.proofs.AbstractLaws.{abstract_once}
 use Rattle.gft_model.proofs.AnswerLaws.{IsDetermined}
 use Rattle.gft_model.proofs.CompiledLaws.{concrete_once}
+use Rattle.gft_model.proofs.FlatLaws.{listed_once, flat_once, typings_once}
+use Rattle.gft_model.proofs.LoadingLaws.{endings_apart, named_once, one_list_of_files}
+use Rattle.gft_model.proofs.NoFlaw.{reads_once}
+use Rattle.gft_model.proofs.RefusalOrder.{first-once}
 
-part_once : (choose : Files → List (List ℕ) → List ℕ → Loaded) {files : Files} {names : List (List ℕ)} {name : List ℕ} {p q : Loaded}
-    → Gives (choosing choose) files names name p → Gives (choosing choose) files names name q → p ≡ q
-part_once choose (source e x) (source f y) = x.1 ∙ sym y.1
-part_once choose (source e x) (portable h f c y) = absurd (endings_apart e f)
-part_once choose (portable g e b x) (source f y) = absurd (endings_apart f e)
-part_once choose (portable {bytes} g e b x) (portable {bytes = others} h f c y) =
+-- what is loaded
+loaded_once : {files : Files} {names : List (List ℕ)} {s t : Loading} → LoadsNamed files nothing_loaded names (loaded s)
+    → LoadsNamed files nothing_loaded names (loaded t) → s ≡ t
+loaded_once x y = let h = named_once x y in cc
+
+-- the abstract module and the language of a source
+abstract_name_once : {mods : List Module} {file A B : List ℕ} → AbstractOf mods file A → AbstractOf mods file B → A ≡ B
+abstract_name_once (itself {m} {n} e h) (itself {m = k} {n = o} f i) =
+    let same : m ≡ k = cc in let header = ap (λ (l : Module). l.header) same in let names : n ≡ o = cc in ap (λ p. p.name) names
+abstract_name_once (itself {m} e h) (of_concrete {m = k} f i) =
+    let same : m ≡ k = cc in let header = ap (λ (l : Module). l.header) same in cc
+abstract_name_once (of_concrete {m} e h) (itself {m = k} f i) =
+    let same : m ≡ k = cc in let header = ap (λ (l : Module). l.header) same in cc
+abstract_name_once (of_concrete {m} {a = a} e h) (of_concrete {m = k} {a = b} f i) =
+    let same : m ≡ k = cc in let header = ap (λ (l : Module). l.header) same in let names : a ≡ b = cc in ap (λ p. p.name) names
+
+has_part_once : {files : Files} {mods : List Module} {file : List ℕ} {a b : AbstractSyntax} → EndsIn source_ending file
+    → HasPart files mods file a → HasPart files mods file b → a ≡ b
+has_part_once {mods = mods} {a = a} {b = b} ends (of_its_source {A} {m} {cats} {funs} x e c d p) (of_its_source {A = B} {m =
+    k} {cats = ds} {funs = gs} y f g h q) =
+    let names = abstract_name_once x y in
+    let there = ap (module_named mods) names in
+    let same : m ≡ k = cc in
+    let cats_same = listed_once c (subst (λ N. AreListed ds (HasOfPart mods categories N)) (sym names) g) in
+    let funs_same = listed_once d (subst (λ N. AreListed gs (HasOfPart mods functions N)) (sym names) h) in
+    abstract_once a b p (subst (λ es. IsAbstractPart cats es (LeftOut mods es) b A (judgements_of m)) (sym funs_same)
+    (subst (λ es. IsAbstractPart es gs (LeftOut mods gs) b A (judgements_of m)) (sym cats_same)
+    (subst (λ n. IsAbstractPart ds gs (LeftOut mods gs) b A (judgements_of n)) (sym same)
+    (subst (λ N. IsAbstractPart ds gs (LeftOut mods gs) b N (judgements_of k)) (sym names) q))))
+has_part_once ends (of_its_source x e c d p) (of_portable i j k) = absurd (endings_apart ends i)
+has_part_once ends (of_portable i j k) y = absurd (endings_apart ends i)
+
+language_once : {mods : List Module} {file L M : List ℕ} {f g : Flat} → HasLanguage mods file L f
+    → HasLanguage mods file M g → (L ≡ M) × (f ≡ g)
+language_once {mods = mods} (of_module {m} {n} {flat = flat} {typings = ts} e h v t) (of_module {m = k} {n = o} {flat = other}
+    {typings = us} f i w u) =
+    let same : m ≡ k = cc in
+    let header = ap (λ (l : Module). l.header) same in
+    let names : n ≡ o = cc in
+    let flats = flat_once mods _ flat other v (subst (λ l. IsView mods l other) (sym same) w) in
+    let typings = typings_once flat ts us t (subst (λ x. AreTypings x us) (sym flats) u) in
+    (ap (λ p. p.name) names, λ j. record (flats j) { typed = typings j })
+
+no_language : {mods : List Module} {file L : List ℕ} {m : Module} {n : PlacedName} {f : Flat}
+    → module_named mods (base_of file) ≡ Some m
+    → m.header ≡ Abstract n → HasLanguage mods file L f → ⊥
+no_language {m = m} e h (of_module {m = k} f i v t) = let same : m ≡ k = cc in
+    let header = ap (λ (l : Module). l.header) same in cc
+
+source_part_once : {files : Files} {names : List (List ℕ)} {name : List ℕ} {p q : Loaded} → EndsIn source_ending name
+    → GivesPart files names name p → GivesPart files names name q → p ≡ q
+source_part_once {files} {name = name} ends (abstract_part l e h p) (abstract_part {a = b} k f i q) =
+    let same = loaded_once l k in
+    let part = has_part_once ends p (subst (λ s. HasPart files s.modules name b) (sym same) q) in
+    λ j. record { abs = part j; languages = [] }
+source_part_once {name = name} ends (abstract_part {m = m} l e h p) (with_language k w q) =
+    let same = loaded_once l k in
+    absurd (no_language (subst (λ s. module_named s.modules (base_of name) ≡ Some m) same e) h w)
+source_part_once {name = name} ends (with_language l v p) (abstract_part {m = m} k f i q) =
+    let same = loaded_once k l in
+    absurd (no_language (subst (λ s. module_named s.modules (base_of name) ≡ Some m) same f) i v)
+source_part_once {files} {name = name} ends (with_language {a = a} l v p) (with_language {lang = lang} {flat = flat} {a = b} k
+    w q) =
+    let same = sym (loaded_once l k) in
+    let part : a ≡ b = has_part_once ends p (subst (λ s. HasPart files s.modules name b) same q) in
+    let language = language_once v (subst (λ s. HasLanguage s.modules name lang flat) same w) in
+    λ j. record { abs = part j; languages = (language.0 j, of_source (language.1 j)) ∷ [] }
+
+part_once : {files : Files} {names : List (List ℕ)} {name : List ℕ} {p q : Loaded} → Gives sources files names name p
+    → Gives sources files names name q → p ≡ q
+part_once (source e x) (source f y) = source_part_once e x y
+part_once (source e x) (portable h f c y) = absurd (endings_apart e f)
+part_once (portable g e b x) (source f y) = absurd (endings_apart f e)
+part_once (portable {bytes} g e b x) (portable {bytes = others} h f c y) =
     let same : bytes ≡ others = cc in
     let both = reads_once g.abs h.abs g.concretes h.concretes x.grammar.fields y.grammar.fields
     (x.bytes_are ∙ same ∙ sym y.bytes_are) in
     λ i. record { abs = both.0 i; languages = map (λ (l : Concrete). (l.name, of_file l)) (both.1 i) }
 
-pub sources_determined : (choose : Files → List (List ℕ) → List ℕ → Loaded) → IsDetermined (choosing choose)
-sources_determined choose = record {
+pub sources_determined : IsDetermined sources
+sources_determined = record {
   apart = λ files names r loaded accepted refuses. accepted refuses.0.moment r refuses.0.broken;
   one_refusal = λ files names r s loaded others x y. (
     first-once (BreaksImport files names) r s x.0 y.0,
     one_list_of_files files names loaded others x.1 y.1,
   );
-  one_part = λ files names name p q x y. part_once choose x y;
+  one_part = λ files names name p q x y. part_once x y;
   one_compiled = concrete_once;
 }

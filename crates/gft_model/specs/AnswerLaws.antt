@@ -9,7 +9,7 @@ use Rattle.gft_rules.specs.declared.refusal.Refusal.{Refusal}
 use Rattle.gft_syntax.specs.declared.flat.Flat.{Flat}
 use Rattle.gft_io.specs.Outside.{Files}
 use Rattle.gft_model.specs.Commands.{Read, ReadsLine, EndsIn, portable_ending}
-use Rattle.gft_model.specs.Import.{GivesPart, sources}
+use Rattle.gft_model.specs.Import.{sources}
 use Rattle.gft_model.specs.Compiled.{Compiles}
 use Rattle.gft_model.specs.Loading.{HasFiles}
 use Rattle.gft_model.specs.Laws.{AreNamedApart}
@@ -17,7 +17,7 @@ use Rattle.gft_model.specs.Output.{Written, Output}
 use Rattle.gft_model.specs.Replies.{Item, Parses, Completes, AreTexts}
 use Rattle.gft_model.specs.Shell.{Held, Answer, IsAnswer, IsFileOf}
 use Rattle.gft_model.specs.Skeleton.{IsSkeleton}
-use Rattle.gft_model.specs.States.{Kept, Loaded, State, Sources, language_of, Gives, StandsFor, kept_grammar}
+use Rattle.gft_model.specs.States.{Kept, State, language_of, Gives, StandsFor, kept_grammar}
 use Rattle.gft_model.specs.Unsolved.{IsWrongAt}
 
 -- the characters of a line are read in at most one way
@@ -73,22 +73,13 @@ CompiledIsDetermined =
     (a : Abstract) (flat : Flat) (lang : List ℕ) (c d : Concrete) → Compiles a flat lang c → Compiles a flat lang d
     → c ≡ d
 
--- the imports of the language, where one is chosen of the resolved grammars of each named source: their entries may stand in
--- any order
-abbrev pub choosing : (Files → List (List ℕ) → List ℕ → Loaded) → Sources
-choosing choose = record sources {
-  gives = λ files names name part. GivesPart files names name part × (part ≡ choose files names name);
-}
-
--- for such a choice a session has at most one answer to a line in which no load or save fails
+-- a session has at most one answer to a line in which no load or save fails
 abbrev pub SessionAnswersOnce : Type 0
 SessionAnswersOnce =
-    (choose : Files → List (List ℕ) → List ℕ → Loaded) (held : Held) (line : List ℕ) (x y : Answer)
-    → IsAnswer (choosing choose) held line x → IsAnswer (choosing choose) held line y → x ≡ y
+    (held : Held) (line : List ℕ) (x y : Answer) → IsAnswer sources held line x → IsAnswer sources held line y → x ≡ y
 
 -- and a run in which none fails at most one output
 abbrev pub OutputIsDetermined : Type 0
 OutputIsDetermined =
-    (choose : Files → List (List ℕ) → List ℕ → Loaded) (words : List (List ℕ)) (input : List ℕ)
-    (files : Files) (w v : Written) → Output (choosing choose) words input files w → w.failures ≡ 0
-    → Output (choosing choose) words input files v → v.failures ≡ 0 → w ≡ v
+    (words : List (List ℕ)) (input : List ℕ) (files : Files) (w v : Written) → Output sources words input files w
+    → w.failures ≡ 0 → Output sources words input files v → v.failures ≡ 0 → w ≡ v

@@ -48,14 +48,12 @@ pub fn compiled_is_determined()
     ensures { CompiledIsDetermined }
 {}
 
-/// A session has at most one answer to a line in which no load or save fails, where of the resolved
-/// grammars of each source one is chosen.
+/// A session has at most one answer to a line in which no load or save fails.
 pub fn session_answers_once()
     ensures { SessionAnswersOnce }
 {}
 
-/// A run in which no load or save fails writes at most one output, where of the resolved grammars of
-/// each source one is chosen.
+/// A run in which no load or save fails writes at most one output.
 pub fn output_is_determined()
     ensures { OutputIsDetermined }
 {}
