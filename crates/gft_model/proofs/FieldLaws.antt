@@ -5,7 +5,7 @@ use Rattle.std.proofs.lemmas.List.{append_assoc, length-append}
 use Rattle.std.proofs.lemmas.Nat.{div-add-mod'}
 use Rattle.std.proofs.Math.Nat.{div-lt_iff_lt-mul, pow-suc}
 use Rattle.std.proofs.Math.Seq.{take-append_seam, drop-append_seam}
-use Rattle.gft_model.specs.Fields.{Form, number, bytes, both, end, item, tagged, made, such, big_endian, number_after, written, Fits, got, block, outcome}
+use Rattle.gft_model.specs.Fields.{Form, number, bytes, part, done, item, such, big_endian, number_after, written, Fits, got, block, outcome}
 
 -- one more byte
 pub after-append : (k : ℕ) (bs : List ℕ) (b : ℕ) → number_after k (bs ++ b ∷ []) ≡ number_after k bs * 256 + b
@@ -49,13 +49,13 @@ read_again (number width) n at rest h =
     rw (ap (λ w. block w at (bs ++ rest)) (sym (length-big_endian width n))) (block-append at bs rest) in
     rw (whole, number-big_endian width n h) refl
 read_again (bytes count) bs at rest h = rw (ap (λ w. block w at (bs ++ rest)) (sym h)) (block-append at bs rest)
-read_again (both f g) p at rest h =
-    let first = written f p.0 in
-    let second = written (g p.0) p.1 in
-    let one = read_again f p.0 at (second ++ rest) h.0 in
-    let two = read_again (g p.0) p.1 (at + length first) rest h.1 in
+read_again (part of f g) x at rest h =
+    let first = written f (of x) in
+    let second = written (g (of x)) x in
+    let one = read_again f (of x) at (second ++ rest) h.0 in
+    let two = read_again (g (of x)) x (at + length first) rest h.1 in
     rw (append_assoc first second rest, one, two, further at first second) refl
-read_again end xs at rest h = rw (h, end_of at) refl
+read_again (done y) x at rest h = rw (h, end_of at) refl
 read_again (item f g) [] at rest h = absurd h
 read_again (item f g) (x ∷ xs) at rest h =
     let first = written f x in
@@ -63,11 +63,4 @@ read_again (item f g) (x ∷ xs) at rest h =
     let one = read_again f x at (second ++ rest) h.0 in
     let two = read_again (g x) xs (at + length first) rest h.1 in
     rw (append_assoc first second rest, one, two, further at first second) refl
-read_again (tagged tag_of tag forms) x at rest h =
-    let first = written tag (tag_of x) in
-    let second = written (forms (tag_of x)) x in
-    let one = read_again tag (tag_of x) at (second ++ rest) h.0 in
-    let two = read_again (forms (tag_of x)) x (at + length first) rest h.1 in
-    rw (append_assoc first second rest, one, two, further at first second) refl
-read_again (made make parts_of f) x at rest h = rw (read_again f (parts_of x) at rest h.1, h.0) refl
 read_again (such f passes rule back) x at rest h = rw (read_again f x at rest h.0, h.1) refl

@@ -1,5 +1,5 @@
 -- What makes a grammar, and the flaws of two that make none.
-use Rattle.std.specs.Prelude.{◌≡◌, ℕ, true, false, All, List, [], ◌∷◌, codes, take}
+use Rattle.std.specs.Prelude.{◌≡◌, ℕ, true, false, All, List, [], ◌∷◌, codes, take, None}
 use Rattle.std.proofs.Common.{ap, length, refl, arith}
 use Rattle.std.specs.Str.{is_utf8, chars}
 use lib.Utf8
@@ -11,6 +11,7 @@ use Rattle.gft_core.specs.declared.symbol.Sym.TheVariants.{Tok, Arg}
 use Rattle.gft_pmcfg.specs.declared.signature.AType.{AType}
 use Rattle.gft_pmcfg.specs.declared.signature.Cat.{Cat}
 use Rattle.gft_pmcfg.specs.declared.signature.Abstract.{Abstract}
+use Rattle.gft_pmcfg.specs.declared.concrete.Concrete.{Concrete}
 use Rattle.gft_pmcfg.specs.declared.grammar.Grammar.{Grammar}
 use Rattle.gft_rules.specs.declared.rule.Rule.TheVariants.{BadOrder}
 use Rattle.gft_model.specs.Typing.{HoleTypes, IsType, IsCategoryTyped, IsFunctionTyped, HasTypes, none}
@@ -18,8 +19,10 @@ use Rattle.gft_model.specs.Flaws.{Flaw, arity, unproductive, here, too_few}
 use Rattle.gft_model.specs.Runs as runs
 use Rattle.gft_model.specs.Runs.{IsKept, MayBeHole}
 use Rattle.gft_model.specs.Fields.{Fits}
-use Rattle.gft_model.specs.FileForms.{FunctionFields, heading, symbol, concrete, file}
-use Rattle.gft_model.specs.PortableFile.{file_bytes, heading_fields, function_fields, concrete_fields, fields_of, listed, IsGrammar, IsReduced, Reads, IsInvalid, HasFault, of_field, IsFlawed, of_category, of_function, of_production}
+use Rattle.gft_model.specs.FileForms.{sized, ascending, listed, symbol, production, def_form, ref_form, concrete, type_form, numbered_abstract, abstract, file}
+use Rattle.gft_model.specs.FileForms as forms
+use Rattle.gft_model.specs.Numbering.{numbered}
+use Rattle.gft_model.specs.PortableFile.{file_bytes, IsGrammar, IsReduced, Reads, IsInvalid, HasFault, of_field, IsFlawed, of_category, of_function, of_production}
 use Rattle.gft_model.proofs.RunLemmas.{all_none, all_one, all_from}
 use Rattle.gft_model.proofs.Tiny.{abs, eng}
 use Rattle.gft_model.proofs.Grammars.{dead, barren_eng}
@@ -27,51 +30,74 @@ use Rattle.gft_model.proofs.KeptExamples.{f_not_kept}
 use Rattle.gft_model.proofs.NoFlaw.{no_flaw}
 
 -- the fields of T
-heading_fits : Fits heading (heading_fields abs)
-unfolding is_utf8 chars lib.Utf8.encode is_xid_start is_xid_continue xid_start_ranges xid_continue_ranges in_ranges
-heading_fits = (
-  (refl, refl),
-  ((omega arith, refl), ((omega arith, (refl, refl)), (omega arith, (((omega arith, refl), refl), omega arith)))),
-)
-
-abbrev pub only_function : List FunctionFields
-only_function = function_fields abs.funs (record { name = codes "a"; args = []; result = record { cat = 2; args = [] } }) ∷ []
-
 word_fits : Fits (symbol []) (Tok (codes "a"))
 unfolding is_utf8 chars lib.Utf8.encode is_xid_start is_xid_continue xid_start_ranges xid_continue_ranges in_ranges
-word_fits = ((omega arith, refl), (refl, (omega arith, (refl, refl))))
+word_fits = ((omega arith, refl), ((omega arith, (refl, refl)), refl))
 
 component_fits : Fits (symbol (1 ∷ [])) (Arg 0 0)
-component_fits = ((omega arith, refl), (refl, ((omega arith, refl), (omega arith, refl))))
+component_fits = ((omega arith, refl), ((omega arith, refl), ((omega arith, refl), refl)))
 
-pub concrete_fits : Fits (concrete 1 only_function) (concrete_fields eng)
+production_fits : Fits (production abs.funs eng.infos) (record { fun = 0; args = []; result = 2; seqs =
+    (Tok (codes "a") ∷ []) ∷ [] })
+unfolding is_utf8 chars lib.Utf8.encode is_xid_start is_xid_continue xid_start_ranges xid_continue_ranges in_ranges
+production_fits = ((omega arith, refl), (refl, ((omega arith, refl), (((omega arith, (word_fits, refl)), refl), refl))))
+
+def_fits : Fits (def_form eng.infos) (record { result = 2; seqs = (Arg 0 0 ∷ []) ∷ [] })
+def_fits = ((omega arith, refl), (((omega arith, (component_fits, refl)), refl), refl))
+
+ref_fits : Fits (ref_form eng.infos) (record { arg = 2; seq = Arg 0 0 ∷ [] })
+ref_fits = ((omega arith, refl), ((omega arith, (component_fits, refl)), refl))
+
+pub concrete_fits : Fits (concrete abs) eng
 unfolding is_utf8 chars lib.Utf8.encode is_xid_start is_xid_continue xid_start_ranges xid_continue_ranges in_ranges
 concrete_fits = (
   (omega arith, (refl, refl)),
   (
-    (((omega arith, refl), (omega arith, refl)), refl),
+    (((omega arith, refl), ((omega arith, refl), refl)), refl),
     (
-      (omega arith, ((((omega arith, refl), (refl, ((omega arith, refl), ((omega arith, (word_fits, refl)), refl)))), refl), refl)),
-      (
-        (omega arith, ((((omega arith, refl), ((omega arith, (component_fits, refl)), refl)), refl), refl)),
-        (omega arith, ((((omega arith, refl), (omega arith, (component_fits, refl))), refl), refl)),
-      ),
+      (omega arith, ((production_fits, refl), refl)),
+      ((omega arith, ((def_fits, refl), refl)), ((omega arith, ((ref_fits, refl), refl)), refl)),
     ),
   ),
 )
 
-fields : Fits file (fields_of abs (eng ∷ []))
+-- a category without context, and a type without indices
+category_fits : Fits (forms.category 3 1) (record { name = codes "S"; context = [] })
 unfolding is_utf8 chars lib.Utf8.encode is_xid_start is_xid_continue xid_start_ranges xid_continue_ranges in_ranges
-fields = (
-  heading_fits,
+category_fits = ((omega arith, (refl, refl)), ((omega arith, refl), refl))
+
+type_fits : Fits (type_form 3 1 0) (record { cat = 2; args = [] })
+type_fits = ((omega arith, refl), ((omega arith, refl), refl))
+
+abstract_fits : Fits abstract abs
+unfolding is_utf8 chars lib.Utf8.encode is_xid_start is_xid_continue xid_start_ranges xid_continue_ranges in_ranges
+abstract_fits = (
   (
-    ((((omega arith, (refl, refl)), (omega arith, refl)), refl), refl),
+    (omega arith, (refl, refl)),
     (
-      ((((omega arith, (refl, refl)), (omega arith, (refl, ((omega arith, refl), (omega arith, refl))))), refl), refl),
-      (omega arith, ((concrete_fits, refl), refl)),
+      omega arith,
+      (
+        ((omega arith, refl), refl),
+        (
+          omega arith,
+          (
+            ((category_fits, refl), refl),
+            (((((omega arith, (refl, refl)), ((omega arith, refl), (type_fits, refl))), refl), refl), refl),
+          ),
+        ),
+      ),
     ),
   ),
+  refl,
 )
+
+file_fits : (cs : List Concrete) → Fits (sized (ascending (λ (c : Concrete). c.name) (concrete abs) None)) cs → Fits file
+    (abs, cs)
+unfolding is_utf8 chars lib.Utf8.encode is_xid_start is_xid_continue xid_start_ranges xid_continue_ranges in_ranges
+file_fits cs h = ((refl, refl), ((omega arith, refl), (abstract_fits, (h, refl))))
+
+fields : Fits file (abs, eng ∷ [])
+fields = file_fits (eng ∷ []) (omega arith, ((concrete_fits, refl), refl))
 
 -- its types are well formed, and its production is kept
 only_s : IsType abs [] (record { cat = 2; args = [] })
@@ -87,16 +113,11 @@ reduced : All IsReduced (eng ∷ [])
 reduced = all_one IsReduced eng (all_from (IsKept eng) eng.prods (([], runs.none, all_none (MayBeHole eng)), tt))
 
 tiny_is_grammar : IsGrammar abs (eng ∷ [])
-tiny_is_grammar = record { fields = record { in_range = refl; fits = fields }; types = types; reduced = reduced }
+tiny_is_grammar = record { fits = fields; types = types; reduced = reduced }
 
 -- so is its abstract syntax alone
 alone_is_grammar : IsGrammar abs []
-unfolding is_utf8 chars lib.Utf8.encode is_xid_start is_xid_continue xid_start_ranges xid_continue_ranges in_ranges
-alone_is_grammar = record {
-  fields = record { in_range = refl; fits = (heading_fits, (fields.1.0, (fields.1.1.0, (omega arith, refl)))) };
-  types = types;
-  reduced = all_none IsReduced;
-}
+alone_is_grammar = record { fits = file_fits [] (omega arith, refl); types = types; reduced = all_none IsReduced }
 
 -- its bytes are read as it, it has no flaw, and other bytes are not its own
 abbrev pub tiny : Grammar
@@ -124,7 +145,7 @@ swapped = record {
 }
 
 swapped_is_no_grammar : ¬ IsGrammar swapped []
-swapped_is_no_grammar g = let wrong : false ≡ true = g.fields.fits.1.1.0.1.0.1 in cc
+swapped_is_no_grammar g = let wrong : false ≡ true = g.fits.1.1.0.0.1.1.1.1.1.0.1.0.1 in cc
 
 swapped_is_out_of_order : HasFault (file_bytes swapped []) BadOrder 51
 unfolding is_utf8 chars lib.Utf8.encode is_xid_start is_xid_continue xid_start_ranges xid_continue_ranges in_ranges
@@ -152,27 +173,40 @@ lacks_index = of_category 2 refl
     (here (record { category = category (codes "B") (of_s ∷ []); numbered = refl; indices = too_few }))
 
 -- its fields are in order, so the file is invalid, and at no fault before
-lacking_fits : Fits file (fields_of lacking [])
+lacking_fits : Fits file (lacking, [])
 unfolding is_utf8 chars lib.Utf8.encode is_xid_start is_xid_continue xid_start_ranges xid_continue_ranges in_ranges
-lacking_fits = (
-  ((refl, refl), ((omega arith, refl), ((omega arith, (refl, refl)), (omega arith, (((omega arith, refl), refl), omega arith))))),
-  (
+lacking_fits = ((refl, refl), ((omega arith, refl), ((numbers, refl), ((omega arith, refl), refl)))) where
+  numbers : Fits numbered_abstract (numbered lacking)
+  numbers = (
+    (omega arith, (refl, refl)),
     (
-      (((omega arith, (refl, refl)), (omega arith, refl)), refl),
+      omega arith,
       (
-        (((omega arith, (refl, refl)), (omega arith, (((omega arith, refl), (omega arith, refl)), refl))), refl),
-        ((((omega arith, (refl, refl)), (omega arith, (((omega arith, refl), (omega arith, refl)), refl))), refl), refl),
+        ((omega arith, refl), refl),
+        (
+          omega arith,
+          (
+            (
+              (((omega arith, (refl, refl)), ((omega arith, refl), refl)), refl),
+              (
+                (((omega arith, (refl, refl)), ((omega arith,
+                    (((omega arith, refl), ((omega arith, refl), refl)), refl)), refl)), refl),
+                ((((omega arith, (refl, refl)), ((omega arith,
+                    (((omega arith, refl), ((omega arith, refl), refl)), refl)), refl)), refl), refl),
+              ),
+            ),
+            (refl, refl),
+          ),
+        ),
       ),
     ),
-    (refl, (omega arith, refl)),
-  ),
-)
+  )
 
 lacking_is_invalid : IsInvalid (file_bytes lacking []) arity 51
 lacking_is_invalid = record {
   abs = lacking;
   concretes = [];
-  fields = record { in_range = refl; fits = lacking_fits };
+  fits = lacking_fits;
   bytes_are = refl;
   flawed = lacks_index;
 }

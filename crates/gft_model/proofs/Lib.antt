@@ -54,11 +54,11 @@ pub mod FieldLaws
 pub mod ReadBack
 pub mod ReadingExamples
 pub mod FlawLaws
+pub mod Rising
+pub mod NumberedTerms
 pub mod SoundFile
+pub mod InRange
 pub mod ReadingLaws
-pub mod TermNumbers
-pub mod OneGrammar
-pub mod OneFile
 pub mod NoFlaw
 pub mod OneFlaw
 pub mod TypedTreeExamples

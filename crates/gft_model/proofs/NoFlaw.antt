@@ -1,10 +1,8 @@
 -- A grammar has no flaw, and its bytes are those of no other.
-use Rattle.std.specs.Prelude.{◌≡◌, ◌≤◌, ℕ, zero, suc, true, All, List, [], ◌∷◌, length, map, Contains, Option, Some, None, slice_get, ⊤}
-use Rattle.std.specs.Cmp.Lexicographic.{slice_cmp, nat_list_cmp_total}
-use Rattle.std.specs.Ordering.{nat_cmp}
-use Rattle.std.specs.declared.cmp.Ordering.{Ordering}
-use Rattle.std.specs.declared.cmp.Ordering.TheVariants.{Less, Equal, Greater}
-use Rattle.std.proofs.Common.{refl, sym, ap, ◌∙◌, subst, arith}
+use Rattle.std.specs.Prelude.{◌≡◌, ◌≤◌, ℕ, zero, suc, true, All, List, [], ◌∷◌, map, Contains, Option, Some, None, slice_get}
+use Rattle.std.specs.Cmp.Lexicographic.{nat_list_cmp_total}
+use Rattle.std.specs.Ordering.{is_lt}
+use Rattle.std.proofs.Common.{sym, ap, ◌∙◌, subst, arith}
 use Rattle.gft_pmcfg.specs.declared.signature.AType.{AType}
 use Rattle.gft_pmcfg.specs.declared.signature.Fun.{Fun}
 use Rattle.gft_pmcfg.specs.declared.signature.Abstract.{Abstract}
@@ -13,44 +11,23 @@ use Rattle.gft_pmcfg.specs.declared.grammar.Grammar.{Grammar}
 use Rattle.gft_model.specs.Typing.{IsCategoryTyped, IsFunctionTyped, AreTypes, numbered_from}
 use Rattle.gft_model.specs.Flaws.{Flaw, HaveTypesFlaw, here, later}
 use Rattle.gft_model.specs.Runs.{IsKept}
-use Rattle.gft_model.specs.Fields.{Form, Fits, got, outcome}
-use Rattle.gft_model.specs.FileForms.{FunctionFields, file, is_less, comes_after, ascending}
-use Rattle.gft_model.specs.PortableFile.{listed, function_fields, fields_of, file_bytes, HasFields, IsGrammar, IsReduced, IsFlawed, of_category, of_function, of_production, IsInvalid, Reads}
+use Rattle.gft_model.specs.Fields.{Fits, Outcome, got, outcome}
+use Rattle.gft_model.specs.FileForms.{listed, file, comes_after}
+use Rattle.gft_model.specs.PortableFile.{file_bytes, IsGrammar, IsReduced, IsFlawed, of_category, of_function, of_production, IsInvalid, Reads}
 use Rattle.gft_model.specs.Laws.{AreNamedApart, HaveOneType}
 use Rattle.gft_model.proofs.FlawLaws.{flaw_has_no_type}
 use Rattle.gft_model.proofs.ReadingLaws.{fields_again}
-use Rattle.gft_model.proofs.OneFile.{one_grammar}
-
--- keys that rise
-pub less : (o : Ordering) → is_less o ≡ true → o ≡ Less
-less Less e = refl
-less Equal e = cc
-less Greater e = cc
-
-abbrev Rise : Option (List ℕ) → List (List ℕ) → Type 0
-Rise before [] = ⊤
-Rise before (k ∷ ks) = (comes_after before k ≡ true) × Rise (Some k) ks
-
-keys_rise : {A : Type 0} (key : A → List ℕ) (f : Form A) (before : Option (List ℕ)) (n : ℕ) (xs : List A)
-    → Fits (ascending key f before n) xs → Rise before (map key xs)
-keys_rise key f before zero [] h = tt
-keys_rise key f before zero (x ∷ xs) h = cc
-keys_rise key f before (suc n) [] h = tt
-keys_rise key f before (suc n) (x ∷ xs) h = (h.0.1, keys_rise key f (Some (key x)) n xs h.1)
+use Rattle.gft_model.proofs.NumberedTerms.{functions_rise}
+use Rattle.gft_model.proofs.Rising.{less, Rise, irreflexive}
 
 -- a name behind others is none of them
-irreflexive : (k : List ℕ) → ¬ (comes_after (Some k) k ≡ true)
-irreflexive k h =
-    let one : slice_cmp nat_cmp k k ≡ Less = less _ h in
-    let two = nat_list_cmp_total.antisymm k k in cc
-
 names_behind : (before : List ℕ) (fs : List Fun) (g : Fun) → Rise (Some before) (map (λ (f : Fun). f.name) fs)
     → Contains fs g → comes_after (Some before) g.name ≡ true
 names_behind before [] g h (k, b, e) = absurd (omega (arith, b))
 names_behind before (f ∷ fs) g h (zero, b, e) = ap (λ (x : Fun). comes_after (Some before) x.name) (sym e) ∙ h.0
 names_behind before (f ∷ fs) g h (suc k, b, e) =
     let rest = names_behind f.name fs g h.1 (k, omega (arith, b), e) in
-    let through = nat_list_cmp_total.trans before f.name g.name (less _ h.0) (less _ rest) in ap is_less through
+    let through = nat_list_cmp_total.trans before f.name g.name (less _ h.0) (less _ rest) in ap is_lt through
 
 pub named_apart : (before : Option (List ℕ)) (fs : List Fun) → Rise before (map (λ (f : Fun). f.name) fs) → AreNamedApart fs
 named_apart before [] h f g (k, b, e) n same = absurd (omega (arith, b))
@@ -102,41 +79,33 @@ all_listed P [] all k d b = absurd (omega (arith, b))
 all_listed P (x ∷ []) all k d b = absurd (omega (arith, b))
 all_listed P (x ∷ (y ∷ xs)) all k d b = all (suc (suc k)) d (omega (arith, b))
 
-names_of_fields : (fs gs : List Fun) → map (λ (x : FunctionFields). x.0.1) (map (function_fields fs) gs)
-    ≡ map (λ (f : Fun). f.name) gs
-names_of_fields fs [] = refl
-names_of_fields fs (g ∷ gs) = ap (λ ws. g.name ∷ ws) (names_of_fields fs gs)
-
-pub functions_apart : (a : Abstract) (cs : List Concrete) → Fits file (fields_of a cs) → AreNamedApart a.funs
-functions_apart a cs h = named_apart None a.funs (subst (Rise None) (names_of_fields a.funs a.funs) (keys_rise _ _ None _ _ h.1.1.0))
+pub functions_apart : (a : Abstract) (cs : List Concrete) → Fits file (a, cs) → AreNamedApart a.funs
+functions_apart a cs h = named_apart None a.funs (functions_rise a cs h)
 
 -- a grammar has no flaw
 pub no_flaw : {a : Abstract} {cs : List Concrete} {flaw : Flaw} {at : ℕ} → IsGrammar a cs → IsFlawed a cs flaw at → ⊥
 no_flaw {a} {cs} g (of_category i {c} e before d) =
-    types_flaw (functions_apart a cs g.fields.fits) d (at_place (IsCategoryTyped a) (listed a.cats) i c
+    types_flaw (functions_apart a cs g.fits) d (at_place (IsCategoryTyped a) (listed a.cats) i c
     (all_listed (IsCategoryTyped a) a.cats g.types.0) e)
 no_flaw {a} {cs} g (of_function k {f} cats e before d) =
-    types_flaw (functions_apart a cs g.fields.fits) d (at_place (IsFunctionTyped a) a.funs k f g.types.1 e)
+    types_flaw (functions_apart a cs g.fits) d (at_place (IsFunctionTyped a) a.funs k f g.types.1 e)
 no_flaw {a} {cs} g (of_production l p {c} {prod} types e before i earlier n) =
     n (at_place (IsKept c) c.prods p prod (at_place IsReduced cs l c g.reduced e) i)
 
--- bytes are those of one grammar in range whose fields fit
-same_fields : (a b : Abstract) (cs ds : List Concrete) → Fits file (fields_of a cs) → Fits file (fields_of b ds)
-    → file_bytes a cs ≡ file_bytes b ds → fields_of a cs ≡ fields_of b ds
-same_fields a b cs ds h k e =
-    let both : got (fields_of a cs) (length (file_bytes a cs)) [] ≡ got (fields_of b ds) (length (file_bytes b ds)) []
-    = sym (fields_again a cs h) ∙ ap (outcome file 0) e ∙ fields_again b ds k in cc
+-- bytes are those of one grammar whose fields fit
+one_value : {A : Type 0} {x y : A} {i j : ℕ} {bs cs : List ℕ} → ◌≡◌ {A = Outcome A} (got x i bs) (got y j cs) → x ≡ y
+one_value e = cc
 
-pub reads_once : (a b : Abstract) (cs ds : List Concrete) → HasFields a cs → HasFields b ds
+pub reads_once : (a b : Abstract) (cs ds : List Concrete) → Fits file (a, cs) → Fits file (b, ds)
     → file_bytes a cs ≡ file_bytes b ds → (a ≡ b) × (cs ≡ ds)
 reads_once a b cs ds h k e =
-    one_grammar a b cs ds h.in_range k.in_range h.fits.0.1.1.1.1.1 k.fits.0.1.1.1.1.1
-    (same_fields a b cs ds h.fits k.fits e)
+    let same = one_value (sym (fields_again a cs h) ∙ ap (outcome file 0) e ∙ fields_again b ds k) in
+    (ap (λ g. g.0) same, ap (λ g. g.1) same)
 
 -- so bytes of a grammar are not those of one with a flaw
 pub not_invalid : {bytes : List ℕ} {g : Grammar} {flaw : Flaw} {at : ℕ} → Reads bytes g → IsInvalid bytes flaw at → ⊥
 not_invalid {g} {flaw} {at} r x =
-    let same = reads_once g.abs x.abs g.concretes x.concretes r.grammar.fields x.fields (r.bytes_are ∙ sym x.bytes_are) in
+    let same = reads_once g.abs x.abs g.concretes x.concretes r.grammar.fits x.fits (r.bytes_are ∙ sym x.bytes_are) in
     let moved : IsFlawed g.abs x.concretes flaw at
     = subst (λ (a : Abstract). IsFlawed a x.concretes flaw at) (sym same.0) x.flawed in
     no_flaw r.grammar (subst (λ (cs : List Concrete). IsFlawed g.abs cs flaw at) (sym same.1) moved)

@@ -4,7 +4,6 @@ use Rattle.std.proofs.lemmas.Bool.{eqb-true}
 use Rattle.std.proofs.lemmas.Slice.Eq.{bytes_eq-Decides}
 use Rattle.std.specs.Prelude.{Contains, ◌==◌, Option, Some, None, bytes_eq, if◌then◌else◌, length, map, slice_get}
 use Rattle.gft_core.specs.declared.tree.Tree.{Tree, out-Tree}
-use Rattle.gft_core.specs.declared.tree.Tree.TheOpen as layer
 use Rattle.gft_pmcfg.specs.declared.signature.AType.{AType}
 use Rattle.gft_pmcfg.specs.declared.signature.Abstract.{Abstract}
 use Rattle.gft_pmcfg.specs.declared.signature.Fun.{Fun}

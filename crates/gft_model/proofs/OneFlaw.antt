@@ -1,5 +1,5 @@
 -- A grammar has at most one first flaw.
-use Rattle.std.specs.Prelude.{◌≡◌, ◌<◌, ◌+◌, ℕ, zero, suc, All, List, [], ◌∷◌, take, Some, slice_get}
+use Rattle.std.specs.Prelude.{◌≡◌, ◌<◌, ℕ, zero, suc, All, List, [], ◌∷◌, take, Some, slice_get}
 use Rattle.std.proofs.Common.{refl, sym, ap, ◌∙◌, subst, arith}
 use Rattle.gft_core.specs.declared.tree.Tree.{Tree}
 use Rattle.gft_pmcfg.specs.declared.signature.AType.{AType}
@@ -13,9 +13,9 @@ use Rattle.gft_model.specs.Typing.{HoleTypes, IsCategoryTyped, IsFunctionTyped, 
 use Rattle.gft_model.specs.Flaws.{Flaw, HasFlaw, HaveFlaw, HasTypeFlaw, HaveTypesFlaw, application, inside, other_type, past, too_many, too_few, here}
 use Rattle.gft_model.specs.Flaws as flaws
 use Rattle.gft_model.specs.Runs.{IsKept}
-use Rattle.gft_model.specs.Fields.{outcome}
-use Rattle.gft_model.specs.FileForms.{file}
-use Rattle.gft_model.specs.PortableFile.{listed, IsReduced, HasFault, of_field, after_grammar, IsFlawed, of_category, of_function, of_production, IsInvalid, category_offset, function_offset, concrete_offset, production_offset}
+use Rattle.gft_model.specs.Fields.{outcome, offset_of}
+use Rattle.gft_model.specs.FileForms.{listed, file}
+use Rattle.gft_model.specs.PortableFile.{IsReduced, HasFault, of_field, after_grammar, IsFlawed, of_category, of_function, of_production, IsInvalid}
 use Rattle.gft_model.specs.Laws.{AreNamedApart, HaveOneType}
 use Rattle.gft_model.proofs.FlawLaws.{no_type, flaw_has_no_type}
 use Rattle.gft_model.proofs.SkeletonLaws.{one_type}
@@ -96,12 +96,13 @@ one_production c prod other p r e d kept rest n o = by_order p r
 -- a first flaw is one, at one place
 pub first_flaw : {a : Abstract} {cs : List Concrete} {f g : Flaw} {at there : ℕ} → AreNamedApart a.funs
     → IsFlawed a cs f at → IsFlawed a cs g there → (f ≡ g) × (at ≡ there)
-first_flaw {a} {g} fs (of_category i {c} e all d) (of_category j {c = x} k others h) = by_order i j
+first_flaw {a} {cs} {g} fs (of_category i {c} e all d) (of_category j {c = x} k others h) = by_order i j
     (λ b. absurd (types_flaw fs d (before_place (IsCategoryTyped a) (listed a.cats) j i c others b e)))
     (λ same.
     let found : Some c ≡ Some x = sym e ∙ ap (slice_get (listed a.cats)) same ∙ k in
     let category : c ≡ x = cc in
-    (one_types_flaw fs d (subst (λ (y : Cat). HaveTypesFlaw a [] y.context g) (sym category) h), ap (category_offset a) same))
+    (one_types_flaw fs d (subst (λ (y : Cat). HaveTypesFlaw a [] y.context g) (sym category) h), ap
+        (λ k. offset_of file (a, cs) (2 ∷ 0 ∷ 4 ∷ k ∷ [])) same))
     (λ b. absurd (types_flaw fs h (before_place (IsCategoryTyped a) (listed a.cats) i j x all b k)))
 first_flaw {a} fs (of_category i {c} e all d) (of_function k cats q others h) =
     absurd (types_flaw fs d (at_place (IsCategoryTyped a) (listed a.cats) i c (all_listed (IsCategoryTyped a) a.cats cats) e))
@@ -109,12 +110,13 @@ first_flaw {a} fs (of_category i {c} e all d) (of_production l p types q others 
     absurd (types_flaw fs d (at_place (IsCategoryTyped a) (listed a.cats) i c (all_listed (IsCategoryTyped a) a.cats types.0) e))
 first_flaw {a} fs (of_function k cats q others h) (of_category i {c} e all d) =
     absurd (types_flaw fs d (at_place (IsCategoryTyped a) (listed a.cats) i c (all_listed (IsCategoryTyped a) a.cats cats) e))
-first_flaw {a} {g} fs (of_function i {f} cats e all d) (of_function j {f = x} others_cats k others h) = by_order i j
+first_flaw {a} {cs} {g} fs (of_function i {f} cats e all d) (of_function j {f = x} others_cats k others h) = by_order i j
     (λ b. absurd (types_flaw fs d (before_place (IsFunctionTyped a) a.funs j i f others b e)))
     (λ same.
     let found : Some f ≡ Some x = sym e ∙ ap (slice_get a.funs) same ∙ k in
     let function : f ≡ x = cc in
-    (one_types_flaw fs d (subst (λ (y : Fun). HaveTypesFlaw a [] (signature_of y) g) (sym function) h), ap (function_offset a) same))
+    (one_types_flaw fs d (subst (λ (y : Fun). HaveTypesFlaw a [] (signature_of y) g) (sym function) h), ap
+        (λ k. offset_of file (a, cs) (2 ∷ 0 ∷ 5 ∷ k ∷ [])) same))
     (λ b. absurd (types_flaw fs h (before_place (IsFunctionTyped a) a.funs i j x all b k)))
 first_flaw {a} fs (of_function k {f} cats q others h) (of_production l p types r before i kept n) =
     absurd (types_flaw fs h (at_place (IsFunctionTyped a) a.funs k f types.1 q))
@@ -132,29 +134,24 @@ first_flaw {a} {cs} fs (of_production l p {c} {prod} types e all q kept n)
     (subst (λ (x : Concrete). slice_get x.prods r ≡ Some other) (sym concrete) s) kept
     (subst (λ (x : Concrete). All (IsKept x) (take r x.prods)) (sym concrete) rest) n
     (subst (λ (x : Concrete). ¬ IsKept x other) (sym concrete) o) in
-    (refl, offsets same concrete places))
-    (λ b. absurd (o (at_place (IsKept d) d.prods r other (before_place IsReduced cs l m d all b k) s))) where
-      offsets : l ≡ m → c ≡ d → p ≡ r
-          → concrete_offset a cs l + production_offset a c p ≡ concrete_offset a cs m + production_offset a d r
-      offsets x y z =
-          ap (λ i. concrete_offset a cs i + production_offset a c p) x
-          ∙ ap (λ (b : Concrete). concrete_offset a cs m + production_offset a b p) y
-          ∙ ap (λ i. concrete_offset a cs m + production_offset a d i) z
+    (refl, ap (λ k. offset_of file (a, cs) (3 ∷ suc k ∷ 2 ∷ suc p ∷ [])) same
+    ∙ ap (λ k. offset_of file (a, cs) (3 ∷ suc m ∷ 2 ∷ suc k ∷ [])) places))
+    (λ b. absurd (o (at_place (IsKept d) d.prods r other (before_place IsReduced cs l m d all b k) s)))
 
 -- of bytes too, and then they are at no fault
 pub one_invalid : {bytes : List ℕ} {f g : Flaw} {i j : ℕ} → IsInvalid bytes f i → IsInvalid bytes g j → (f ≡ g) × (i ≡ j)
 one_invalid {g} {j} x y =
-    let same = reads_once x.abs y.abs x.concretes y.concretes x.fields y.fields (x.bytes_are ∙ sym y.bytes_are) in
+    let same = reads_once x.abs y.abs x.concretes y.concretes x.fits y.fits (x.bytes_are ∙ sym y.bytes_are) in
     let moved : IsFlawed x.abs y.concretes g j
     = subst (λ (a : Abstract). IsFlawed a y.concretes g j) (sym same.0) y.flawed in
-    first_flaw (functions_apart x.abs x.concretes x.fields.fits) x.flawed
+    first_flaw (functions_apart x.abs x.concretes x.fits) x.flawed
     (subst (λ (cs : List Concrete). IsFlawed x.abs cs g j) (sym same.1) moved)
 
 pub invalid_has_no_fault : {bytes : List ℕ} {flaw : Flaw} {rule : Rule} {i j : ℕ} → IsInvalid bytes flaw i
     → HasFault bytes rule j → ⊥
 invalid_has_no_fault x (of_field e) =
-    let again = fields_again x.abs x.concretes x.fields.fits in
+    let again = fields_again x.abs x.concretes x.fits in
     let whole = ap (outcome file 0) x.bytes_are in cc
 invalid_has_no_fault x (after_grammar e) =
-    let again = fields_again x.abs x.concretes x.fields.fits in
+    let again = fields_again x.abs x.concretes x.fits in
     let whole = ap (outcome file 0) x.bytes_are in cc

@@ -6,7 +6,7 @@ use Rattle.std.proofs.lemmas.List.{append_assoc, append-nil, length-append, leng
 use Rattle.std.proofs.lemmas.Nat.{div-mul-add, mod-mul-add}
 use Rattle.std.proofs.Math.Nat.{pow-suc}
 use Rattle.gft_rules.specs.declared.rule.Rule.TheVariants.{Short}
-use Rattle.gft_model.specs.Fields.{Form, number, bytes, both, end, item, tagged, made, such, big_endian, number_after, written, Fits, Outcome, got, fault, and_then, block, outcome}
+use Rattle.gft_model.specs.Fields.{Form, number, bytes, part, done, item, such, big_endian, number_after, written, Fits, Outcome, got, fault, and_then, block, outcome}
 use Rattle.gft_model.specs.Laws.{AreBytes}
 use Rattle.gft_model.proofs.FieldLaws.{after-append}
 
@@ -14,12 +14,9 @@ use Rattle.gft_model.proofs.FieldLaws.{after-append}
 abbrev pub IsSound : {A : Type 0} → Form A → Type 0
 IsSound (number width) = ⊤
 IsSound (bytes count) = ⊤
-IsSound {A} (both {A = B} f g) = IsSound f × ((x : B) → Fits f x → IsSound (g x))
-IsSound end = ⊤
+IsSound {A} (part {B} of f g) = IsSound f × ((y : B) → Fits f y → IsSound (g y) × ((x : A) → Fits (g y) x → of x ≡ y))
+IsSound (done y) = ⊤
 IsSound (item {A = B} f g) = IsSound f × ((x : B) → Fits f x → IsSound (g x))
-IsSound {A} (tagged tag_of tag forms) =
-    IsSound tag × ((n : ℕ) → Fits tag n → IsSound (forms n) × ((x : A) → Fits (forms n) x → tag_of x ≡ n))
-IsSound (made {B} make parts_of f) = IsSound f × ((y : B) → Fits f y → parts_of (make y) ≡ y)
 IsSound (such f passes rule back) = IsSound f
 
 -- what a form reads: a value that fits, whose bytes stood before the rest
@@ -45,9 +42,9 @@ taken_apart (fault rule at) next y last behind e = cc
 -- lists from their ends
 from_end : (P : List ℕ → Type 0) → P [] → ((bs : List ℕ) (b : ℕ) → P bs → P (bs ++ b ∷ [])) → (bs : List ℕ) → P bs
 from_end P start step bs = go [] bs start where
-  go : (done left : List ℕ) → P done → P (done ++ left)
-  go done [] p = subst P (sym (append-nil done)) p
-  go done (b ∷ left) p = subst P (append_assoc done (b ∷ []) left) (go (done ++ b ∷ []) left (step done b p))
+  go : (before left : List ℕ) → P before → P (before ++ left)
+  go before [] p = subst P (sym (append-nil before)) p
+  go before (b ∷ left) p = subst P (append_assoc before (b ∷ []) left) (go (before ++ b ∷ []) left (step before b p))
 
 -- the parts of bytes
 first_bytes : (bs cs : List ℕ) → AreBytes (bs ++ cs) → AreBytes bs × AreBytes cs
@@ -120,21 +117,21 @@ read_back (number width) s at bs h x last rest e =
     }) value ends
 read_back (bytes count) s at bs h x last rest e =
     let blk = block_back count at bs x last rest h e in record { fits = blk.0; are = blk.1; left = blk.3 }
-read_back {A} (both f g) s at bs h x last rest e =
-    let t = taken_apart (outcome f at bs) (λ x next rest. and_then (outcome (g x) next rest) (λ y last behind. got (x, y) last behind)) x last rest e in
-    let u = taken_apart (outcome (g t.value) t.at t.rest) (λ y last behind. got (t.value, y) last behind) x last rest t.second in
+read_back (part of f g) s at bs h x last rest e =
+    let t = taken_apart (outcome f at bs) (λ y next rest. outcome (g y) next rest) x last rest e in
     let one = read_back f s.0 at bs h t.value t.at t.rest t.first in
-    let two = read_back (g t.value) (s.1 t.value one.fits) t.at t.rest one.left u.value u.at u.rest u.first in
-    let value : (t.value, u.value) ≡ x = cc in
-    let ends : u.rest ≡ rest = cc in
-    moved {f = both f g} {x = (t.value, u.value)} (record {
-      fits = (one.fits, two.fits);
-      are = joined bs (written f t.value) (written (g t.value) u.value) t.rest u.rest one.are two.are;
+    let inner = s.1 t.value one.fits in
+    let two = read_back (g t.value) inner.0 t.at t.rest one.left x last rest t.second in
+    let same : of x ≡ t.value = inner.1 x two.fits in
+    record {
+      fits = (subst (Fits f) (sym same) one.fits, subst (λ y. Fits (g y) x) (sym same) two.fits);
+      are = subst (λ y. bs ≡ written f y ++ written (g y) x ++ rest) (sym same)
+          (joined bs (written f t.value) (written (g t.value) x) t.rest rest one.are two.are);
       left = two.left;
-    }) value ends
-read_back end s at bs h x last rest e =
-    let value : [] ≡ x = cc in
-    let ends : bs ≡ rest = cc in record { fits = sym value; are = ends; left = subst AreBytes ends h }
+    }
+read_back (done y) s at bs h x last rest e =
+    let value : y ≡ x = cc in
+    let ends : bs ≡ rest = cc in record { fits = value; are = ends; left = subst AreBytes ends h }
 read_back (item f g) s at bs h x last rest e =
     let t = taken_apart (outcome f at bs) (λ x next rest. and_then (outcome (g x) next rest) (λ xs last behind. got (x ∷ xs) last behind)) x last rest e in
     let u = taken_apart (outcome (g t.value) t.at t.rest) (λ xs last behind. got (t.value ∷ xs) last behind) x last rest t.second in
@@ -146,29 +143,6 @@ read_back (item f g) s at bs h x last rest e =
       fits = (one.fits, two.fits);
       are = joined bs (written f t.value) (written (g t.value) u.value) t.rest u.rest one.are two.are;
       left = two.left;
-    }) value ends
-read_back {A} (tagged tag_of tag forms) s at bs h x last rest e =
-    let t = taken_apart (outcome tag at bs) (λ n next rest. outcome (forms n) next rest) x last rest e in
-    let one = read_back tag s.0 at bs h t.value t.at t.rest t.first in
-    let inner = s.1 t.value one.fits in
-    let two = read_back (forms t.value) inner.0 t.at t.rest one.left x last rest t.second in
-    let same : tag_of x ≡ t.value = inner.1 x two.fits in
-    record {
-      fits = (subst (Fits tag) (sym same) one.fits, subst (λ n. Fits (forms n) x) (sym same) two.fits);
-      are = subst (λ n. bs ≡ written tag n ++ written (forms n) x ++ rest) (sym same)
-          (joined bs (written tag t.value) (written (forms t.value) x) t.rest rest one.are two.are);
-      left = two.left;
-    }
-read_back (made make parts_of f) s at bs h x last rest e =
-    let t = taken_apart (outcome f at bs) (λ y next rest. got (make y) next rest) x last rest e in
-    let one = read_back f s.0 at bs h t.value t.at t.rest t.first in
-    let back : parts_of (make t.value) ≡ t.value = s.1 t.value one.fits in
-    let value : make t.value ≡ x = cc in
-    let ends : t.rest ≡ rest = cc in
-    moved {f = made make parts_of f} {x = make t.value} (record {
-      fits = (ap make back, subst (Fits f) (sym back) one.fits);
-      are = one.are ∙ ap (λ y. written f y ++ t.rest) (sym back);
-      left = one.left;
     }) value ends
 read_back {A} (such f passes rule back) s at bs h x last rest e =
     let t = taken_apart (outcome f at bs) (λ x next rest. if passes x then got x next rest else fault rule (at - back)) x last rest e in

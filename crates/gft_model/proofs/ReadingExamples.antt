@@ -12,17 +12,18 @@ use Rattle.gft_core.specs.declared.tree.Tree.TheVariants.{outs-Hole}
 use Rattle.gft_rules.specs.declared.rule.Rule.{Rule}
 use Rattle.gft_rules.specs.declared.rule.Rule.TheVariants.{Short, BadVersion, BadText, BadNumber, BadTag, TooLong}
 use Rattle.gft_model.specs.Fields.{outcome, got, fault, written, big_endian}
-use Rattle.gft_model.specs.FileForms.{Sizes, number_in, term, type_form, file}
-use Rattle.gft_model.specs.PortableFile.{type_fields, file_bytes, fields_of, HasFault, of_field, after_grammar}
+use Rattle.gft_model.specs.FileForms.{TermParts, parts, term, type_form, file}
+use Rattle.gft_model.specs.PortableFile.{file_bytes, HasFault, of_field, after_grammar}
+use Rattle.gft_model.specs.Numbering.{numbered_step, changed_type, names_of}
 use Rattle.gft_model.proofs.Home.{home, tag}
-use Rattle.gft_model.proofs.TermNumbers.{numbered-Hole}
+use Rattle.gft_model.proofs.Layers.{by_layers-Hole}
 use Rattle.gft_model.proofs.Tiny.{abs, eng}
 
 abbrev tiny : List ℕ
 tiny = file_bytes abs (eng ∷ [])
 
 -- it is read whole
-pub read : outcome file 0 tiny ≡ got (fields_of abs (eng ∷ [])) 133 []
+pub read : outcome file 0 tiny ≡ got (abs, eng ∷ []) 133 []
 unfolding is_utf8 chars lib.Utf8.encode is_xid_start is_xid_continue xid_start_ranges xid_continue_ranges in_ranges
 read = refl
 
@@ -39,7 +40,7 @@ short = of_field refl
 -- with a byte more, that byte is too much
 long : HasFault (tiny ++ 0 ∷ []) TooLong 133
 unfolding is_utf8 chars lib.Utf8.encode is_xid_start is_xid_continue xid_start_ranges xid_continue_ranges in_ranges
-long = after_grammar {x = fields_of abs (eng ∷ [])} {rest = []} refl
+long = after_grammar {x = (abs, eng ∷ [])} {rest = []} refl
 
 -- the file with another byte at an offset
 abbrev with_byte : ℕ → ℕ → List ℕ
@@ -88,11 +89,9 @@ later_variable : outcome (term 1 1 201) 0 (1 ∷ 0 ∷ 0 ∷ 0 ∷ 1 ∷ []) ≡
 later_variable = refl
 
 -- the bytes of `Tag k` of Home, over the argument k: category 4, one index, the variable 0
-abbrev sizes : Sizes
-sizes = record { categories = 5; functions = 4 }
-
-tag_bytes : written (type_form sizes 1) (type_fields home.funs tag) ≡ 0 ∷ 0 ∷ 0 ∷ 4 ∷ 0 ∷ 0 ∷ 0 ∷ 1 ∷ 1 ∷ 0 ∷ 0 ∷ 0 ∷ 0 ∷ []
+tag_bytes : written (type_form 5 4 1) (changed_type (numbered_step (names_of home.funs)) tag)
+    ≡ 0 ∷ 0 ∷ 0 ∷ 4 ∷ 0 ∷ 0 ∷ 0 ∷ 1 ∷ 1 ∷ 0 ∷ 0 ∷ 0 ∷ 0 ∷ []
 tag_bytes =
-    let number : number_in (out-Tree (Hole 0)) ≡ 0 = ap number_in (outs-Hole 0) in
-    rw (numbered-Hole home.funs 1, outs-Hole 0)
+    let number : (parts (out-Tree (Hole 0))).number ≡ 0 = ap (λ (p : TermParts). p.number) (ap parts (outs-Hole 0)) in
+    rw (by_layers-Hole (numbered_step (names_of home.funs)) 1, outs-Hole 0)
     (ap (λ n. 0 ∷ 0 ∷ 0 ∷ 4 ∷ 0 ∷ 0 ∷ 0 ∷ 1 ∷ 1 ∷ big_endian 4 n) number)

@@ -1,71 +1,87 @@
 -- The table of the portable file takes apart what it puts together.
-use Rattle.std.specs.Prelude.{◌≡◌, ◌<◌, ℕ, zero, suc, true, false, List, [], ◌∷◌, length, map, Option, Some, None}
-use Rattle.std.proofs.Common.{refl, sym, ap, ◌∙◌, arith}
-use Rattle.std.proofs.lemmas.Bool.{ltb-true}
+use Rattle.std.specs.Prelude.{◌≡◌, ◌<◌, ℕ, zero, suc, ◌+◌, true, false, codes, List, [], ◌∷◌, ◌++◌, length, map, Option, Some, None}
+use Rattle.std.proofs.Common.{sym, ap, ◌∙◌, arith}
+use Rattle.std.proofs.lemmas.Bool.{ltb-true, eqb-true}
+use Rattle.std.proofs.lemmas.Slice.Eq.{bytes_eq-Decides}
 use Rattle.gft_core.specs.declared.symbol.Sym.{Sym}
 use Rattle.gft_core.specs.declared.tree.Tree.{Tree, out-Tree}
 use Rattle.gft_core.specs.declared.tree.Tree.TheVariants.{outs-App, outs-Int, outs-Str, outs-Hole}
+use Rattle.gft_pmcfg.specs.declared.signature.AType.{AType}
+use Rattle.gft_pmcfg.specs.declared.signature.Cat.{Cat}
+use Rattle.gft_pmcfg.specs.declared.signature.Fun.{Fun}
+use Rattle.gft_pmcfg.specs.declared.signature.Abstract.{Abstract}
 use Rattle.gft_pmcfg.specs.declared.concrete.Info.{Info}
+use Rattle.gft_pmcfg.specs.declared.concrete.Prod.{Prod}
+use Rattle.gft_pmcfg.specs.declared.concrete.Def.{Def}
+use Rattle.gft_pmcfg.specs.declared.concrete.Ref.{Ref}
+use Rattle.gft_pmcfg.specs.declared.concrete.Concrete.{Concrete}
 use Rattle.gft_pmcfg.specs.Nonterminals.{dimension_of}
-use Rattle.gft_model.specs.Fields.{Form, both, made, big_endian, Fits}
-use Rattle.gft_model.specs.FileForms.{Text, below, times, counted, term_tag, application, application_parts, number_in, word_in, variable, untagged, term, most_levels, Sizes, type_form, types, category, function, FunctionFields, ascending, ordered, heading, sizes_in, symbol_tag, untagged_symbol, symbol, sequence, info, infos_of, nonterminals, argument_categories, production, def_form, ref_form, concrete, file}
-use Rattle.gft_model.proofs.FieldLaws.{number-big_endian}
+use Rattle.gft_model.specs.Fields.{Form, Fits}
+use Rattle.gft_model.specs.FileForms.{sized, times, ascending, TermParts, parts, untagged, term, most_levels, type_form, types, category, function, listed, numbered_abstract, abstract, symbol_tag, word_in, component_in, untagged_symbol, symbol, sequence, infos, nonterminals, production, def_form, ref_form, literal_infos, concrete, file}
+use Rattle.gft_model.specs.Numbering.{numbered}
+use Rattle.gft_model.proofs.NumberedTerms.{same_abstract}
 use Rattle.gft_model.proofs.ReadBack.{IsSound}
 
 -- lists
-sound_times : {A : Type 0} (n : ℕ) (f : Form A) → IsSound f → IsSound (times n f)
-sound_times zero f s = tt
-sound_times (suc n) f s = (s, λ x h. sound_times n f s)
+pub count_of : {A : Type 0} (f : Form A) (n : ℕ) (xs : List A) → Fits (times f n) xs → length xs ≡ n
+count_of f zero xs h = ap length (sym h)
+count_of f (suc n) [] h = absurd h
+count_of f (suc n) (x ∷ xs) h = let rest = count_of f n xs h.1 in omega (arith, rest)
 
-sound_counted : {A : Type 0} (f : Form A) → IsSound f → IsSound (counted f)
-sound_counted f s = (tt, λ n h. sound_times n f s)
+pub count_ascending : {A : Type 0} (key : A → List ℕ) (f : Form A) (before : Option (List ℕ)) (n : ℕ) (xs : List A)
+    → Fits (ascending key f before n) xs → length xs ≡ n
+count_ascending key f before zero xs h = ap length (sym h)
+count_ascending key f before (suc n) [] h = absurd h
+count_ascending key f before (suc n) (x ∷ xs) h =
+    let rest = count_ascending key f (Some (key x)) n xs h.1 in omega (arith, rest)
+
+sound_times : {A : Type 0} (f : Form A) (n : ℕ) → IsSound f → IsSound (times f n)
+sound_times f zero s = tt
+sound_times f (suc n) s = (s, λ x h. sound_times f n s)
+
+sound_list : {A : Type 0} (f : Form A) → IsSound f → IsSound (sized (times f))
+sound_list f s = (tt, λ n h. (sound_times f n s, count_of f n))
 
 sound_ascending : {A : Type 0} (key : A → List ℕ) (f : Form A) (before : Option (List ℕ)) (n : ℕ) → IsSound f
     → IsSound (ascending key f before n)
 sound_ascending key f before zero s = tt
 sound_ascending key f before (suc n) s = (s, λ x h. sound_ascending key f (Some (key x)) n s)
 
-sound_ordered : {A : Type 0} (f : Form A) → IsSound f → IsSound (ordered f)
-sound_ordered f s = (tt, λ n h. sound_ascending _ f None n s)
-
-count_of : {A : Type 0} (n : ℕ) (f : Form A) (xs : List A) → Fits (times n f) xs → length xs ≡ n
-count_of zero f xs h = ap length h
-count_of (suc n) f [] h = absurd h
-count_of (suc n) f (x ∷ xs) h = let rest = count_of n f xs h.1 in omega (arith, rest)
-
--- a text has the length of its bytes
-same_text : (w : Text) → length w.1 ≡ w.0 → ◌≡◌ {A = Text} (length w.1, w.1) w
-same_text w h = ap (λ n. (n, w.1)) h
+sound_keyed : {A : Type 0} (key : A → List ℕ) (f : Form A) → IsSound f → IsSound (sized (ascending key f None))
+sound_keyed key f s = (tt, λ n h. (sound_ascending key f None n s, count_ascending key f None n))
 
 -- terms
-sound_application : (functions : ℕ) (inner : Form Tree) → IsSound inner
-    → IsSound (made application (λ t. application_parts (out-Tree t)) (both (below functions) (λ f. counted inner)))
-sound_application functions inner s = ((tt, λ f h. sound_counted inner s), back) where
-  back : (y : ℕ × (ℕ × List Tree)) → Fits (both (below functions) (λ f. counted inner)) y
-      → application_parts (out-Tree (application y)) ≡ y
-  back (f, (n, ts)) h =
-      let value = number-big_endian 4 f h.0.0 in
-      let count = count_of n inner ts h.1.1 in
-      ap application_parts (outs-App (big_endian 4 f) ts) ∙ ap (λ k. (k, (length ts, ts))) value ∙ ap (λ k. (f, (k, ts))) count
-
-sound_variable : (variables : ℕ) → IsSound (variable variables)
-sound_variable variables = (tt, λ k h. ap number_in (outs-Hole k))
-
-sound_untagged : (functions variables : ℕ) (inner : Form Tree) (n : ℕ) → IsSound inner
-    → IsSound (untagged functions variables inner n)
-sound_untagged functions variables inner zero s = sound_application functions inner s
-sound_untagged functions variables inner (suc zero) s = sound_variable variables
-sound_untagged functions variables inner (suc (suc zero)) s = (tt, λ n h. ap number_in (outs-Int n))
-sound_untagged functions variables inner (suc (suc (suc n))) s =
-    ((tt, λ count fits. tt), λ w h. ap word_in (outs-Str w.1) ∙ same_text w h.1.0)
+sound_untagged : (functions variables tag : ℕ) (inner : Form Tree) → IsSound inner
+    → IsSound (untagged functions variables inner tag)
+sound_untagged functions variables zero inner s = (
+  tt,
+  λ f h. (
+    (sound_list inner s, λ ts k. (tt, λ t e. ap (λ x. (parts (out-Tree x)).terms) (sym e) ∙ ap (λ (p : TermParts). p.terms)
+        (ap parts (outs-App _ _)))),
+    λ t e. ap (λ x. (parts (out-Tree x)).number) (sym e.1) ∙ ap (λ (p : TermParts). p.number) (ap parts (outs-App _ _)),
+  ),
+)
+sound_untagged functions variables (suc zero) inner s =
+    (tt, λ k h. (tt, λ t e. ap (λ x. (parts (out-Tree x)).number) (sym e) ∙ ap (λ (p : TermParts). p.number)
+        (ap parts (outs-Hole _))))
+sound_untagged functions variables (suc (suc zero)) inner s =
+    (tt, λ k h. (tt, λ t e. ap (λ x. (parts (out-Tree x)).number) (sym e) ∙ ap (λ (p : TermParts). p.number)
+        (ap parts (outs-Int _))))
+sound_untagged functions variables (suc (suc (suc n))) inner s =
+    ((tt, λ c h. (tt, λ w k. k.0)), λ w h. (tt, λ t e. ap (λ x. (parts (out-Tree x)).word) (sym e) ∙ ap
+        (λ (p : TermParts). p.word) (ap parts (outs-Str _))))
 
 tag_is : (functions variables : ℕ) (inner : Form Tree) (n : ℕ) → n < 4 → (t : Tree)
-    → Fits (untagged functions variables inner n) t → term_tag (out-Tree t) ≡ n
-tag_is functions variables inner zero b t h = ap (λ u. term_tag (out-Tree u)) (sym h.0) ∙ ap term_tag (outs-App _ _)
-tag_is functions variables inner (suc zero) b t h = ap (λ u. term_tag (out-Tree u)) (sym h.0) ∙ ap term_tag (outs-Hole _)
-tag_is functions variables inner (suc (suc zero)) b t h = ap (λ u. term_tag (out-Tree u)) (sym h.0) ∙ ap term_tag (outs-Int _)
+    → Fits (untagged functions variables inner n) t → (parts (out-Tree t)).tag ≡ n
+tag_is functions variables inner zero b t h = ap (λ x. (parts (out-Tree x)).tag) (sym h.1.1) ∙ ap (λ (p : TermParts). p.tag)
+    (ap parts (outs-App _ _))
+tag_is functions variables inner (suc zero) b t h = ap (λ x. (parts (out-Tree x)).tag) (sym h.1) ∙ ap
+    (λ (p : TermParts). p.tag) (ap parts (outs-Hole _))
+tag_is functions variables inner (suc (suc zero)) b t h = ap (λ x. (parts (out-Tree x)).tag) (sym h.1) ∙ ap
+    (λ (p : TermParts). p.tag) (ap parts (outs-Int _))
 tag_is functions variables inner (suc (suc (suc n))) b t h =
-    let three : term_tag (out-Tree t) ≡ 3 = ap (λ u. term_tag (out-Tree u)) (sym h.0) ∙ ap term_tag (outs-Str _) in
+    let three : (parts (out-Tree t)).tag ≡ 3 = ap (λ x. (parts (out-Tree x)).tag) (sym h.1) ∙ ap (λ (p : TermParts). p.tag)
+        (ap parts (outs-Str _)) in
     omega (arith, three, b)
 
 sound_term : (functions variables levels : ℕ) → IsSound (term functions variables levels)
@@ -75,87 +91,232 @@ sound_term functions variables zero = (tt, λ n h. absurd (never h.1)) where
 sound_term functions variables (suc levels) = (
   tt,
   λ n h. (
-    sound_untagged functions variables (term functions variables levels) n (sound_term functions variables levels),
+    sound_untagged functions variables n (term functions variables levels) (sound_term functions variables levels),
     tag_is functions variables (term functions variables levels) n (ltb-true n 4 h.1),
   ),
 )
 
-sound_type : (sizes : Sizes) (variables : ℕ) → IsSound (type_form sizes variables)
-sound_type sizes variables = (tt, λ c h. sound_counted _ (sound_term sizes.functions variables most_levels))
+module _ (categories functions : ℕ) where
+  sound_type : (variables : ℕ) → IsSound (type_form categories functions variables)
+  sound_type variables = (
+    tt,
+    λ c h. (
+      (
+        sound_list _ (sound_term functions variables most_levels),
+        λ ts k. (tt, λ t e. ap (λ (x : AType). x.args) (sym e)),
+      ),
+      λ t e. ap (λ (x : AType). x.cat) (sym e.1),
+    ),
+  )
 
-sound_types : (sizes : Sizes) (variables n : ℕ) → IsSound (types sizes variables n)
-sound_types sizes variables zero = tt
-sound_types sizes variables (suc n) = (sound_type sizes variables, λ t h. sound_types sizes (suc variables) n)
+  sound_types : (variables n : ℕ) → IsSound (types categories functions variables n)
+  sound_types variables zero = tt
+  sound_types variables (suc n) = (sound_type variables, λ t h. sound_types (suc variables) n)
 
-sound_category : (sizes : Sizes) → IsSound (category sizes)
-sound_category sizes = ((tt, λ count fits. tt), λ w h. (tt, λ n k. sound_types sizes 0 n))
+  count_types : (variables n : ℕ) (ts : List AType) → Fits (types categories functions variables n) ts → length ts ≡ n
+  count_types variables zero ts h = ap length (sym h)
+  count_types variables (suc n) [] h = absurd h
+  count_types variables (suc n) (t ∷ ts) h = let rest = count_types (suc variables) n ts h.1 in omega (arith, rest)
 
-sound_function : (sizes : Sizes) → IsSound (function sizes)
-sound_function sizes = ((tt, λ count fits. tt), λ w h. (tt, λ n k. (sound_types sizes 0 n, λ ts j. sound_type sizes n)))
+  sound_sized_types : IsSound (sized (types categories functions 0))
+  sound_sized_types = (tt, λ n h. (sound_types 0 n, count_types 0 n))
+
+  sound_category : IsSound (category categories functions)
+  sound_category = (
+    (tt, λ c h. (tt, λ w k. k.0)),
+    λ w h. (
+      (sound_sized_types, λ ts k. (tt, λ c e. ap (λ (x : Cat). x.context) (sym e))),
+      λ c e. ap (λ (x : Cat). x.name) (sym e.1),
+    ),
+  )
+
+  sound_function : IsSound (function categories functions)
+  sound_function = (
+    (tt, λ c h. (tt, λ w k. k.0)),
+    λ w h. (
+      (
+        sound_sized_types,
+        λ ts k. (
+          (sound_type (length ts), λ t j. (tt, λ f e. ap (λ (x : Fun). x.result) (sym e))),
+          λ f e. ap (λ (x : Fun). x.args) (sym e.1),
+        ),
+      ),
+      λ f e. ap (λ (x : Fun). x.name) (sym e.1.1),
+    ),
+  )
+
+sound_numbered : IsSound numbered_abstract
+sound_numbered = (
+  (tt, λ c h. (tt, λ w k. k.0)),
+  λ w h. (
+    (
+      tt,
+      λ start i. (
+        (
+          tt,
+          λ categories j. (
+            (
+              tt,
+              λ functions k. (
+                (
+                  sound_ascending _ _ None categories (sound_category (categories + 2) functions),
+                  λ cs l. (
+                    (
+                      sound_ascending _ _ None functions (sound_function (categories + 2) functions),
+                      λ fs m. (tt, λ a e. ap (λ (x : Abstract). x.funs) (sym e)),
+                    ),
+                    λ a e. ap (λ (x : Abstract). listed x.cats) (sym e.1),
+                  ),
+                ),
+                λ a e. count_ascending _ _ None functions a.funs e.1.0,
+              ),
+            ),
+            λ a e. count_ascending _ _ None categories (listed a.cats) e.1.0,
+          ),
+        ),
+        λ a e. ap (λ (x : Abstract). x.start) (sym e.1.1.1.1),
+      ),
+    ),
+    λ a e. ap (λ (x : Abstract). x.name) (sym e.1.1.1.1.1),
+  ),
+)
+
+sound_abstract : IsSound abstract
+sound_abstract = (sound_numbered, λ b h. (tt, λ a e. ap numbered (sym e) ∙ same_abstract b h))
 
 -- symbols
 sound_symbol : (dims : List ℕ) → IsSound (symbol dims)
 sound_symbol dims = (tt, λ n h. (inner n, tag n (ltb-true n 2 h.1))) where
   inner : (n : ℕ) → IsSound (untagged_symbol dims n)
-  inner zero = ((tt, λ count fits. tt), λ w h. same_text w h.1.0)
-  inner (suc n) = ((tt, λ i h. tt), λ c h. refl)
+  inner zero = ((tt, λ c h. (tt, λ w k. k.0)), λ w h. (tt, λ s e. ap word_in (sym e)))
+  inner (suc n) = (
+    tt,
+    λ i h. (
+      (tt, λ l k. (tt, λ s e. ap (λ x. (component_in x).1) (sym e))),
+      λ s e. ap (λ x. (component_in x).0) (sym e.1),
+    ),
+  )
 
-  tag : (n : ℕ) → n < 2 → (x : Sym) → Fits (untagged_symbol dims n) x → symbol_tag x ≡ n
-  tag zero b x h = ap symbol_tag (sym h.0)
-  tag (suc n) b x h = let one : symbol_tag x ≡ 1 = ap symbol_tag (sym h.0) in omega (arith, one, b)
+  tag : (n : ℕ) → n < 2 → (s : Sym) → Fits (untagged_symbol dims n) s → symbol_tag s ≡ n
+  tag zero b s h = ap symbol_tag (sym h.1)
+  tag (suc n) b s h = let one : symbol_tag s ≡ 1 = ap symbol_tag (sym h.1.1) in omega (arith, one, b)
 
 sound_sequence : (dims : List ℕ) → IsSound (sequence dims)
-sound_sequence dims = sound_counted (symbol dims) (sound_symbol dims)
+sound_sequence dims = sound_list (symbol dims) (sound_symbol dims)
 
 -- concrete syntaxes
-sound_nonterminals : (infos : List Info) (cats : List ℕ) → IsSound (nonterminals infos cats)
-sound_nonterminals infos [] = tt
-sound_nonterminals infos (c ∷ cs) = (tt, λ n h. sound_nonterminals infos cs)
+sound_nonterminals : (is : List Info) (cats : List ℕ) → IsSound (nonterminals is cats)
+sound_nonterminals is [] = tt
+sound_nonterminals is (c ∷ cs) = (tt, λ n h. sound_nonterminals is cs)
 
-sound_production : (fs : List FunctionFields) (infos : List Info) → IsSound (production fs infos)
-sound_production fs infos = (
+sound_production : (fs : List Fun) (is : List Info) → IsSound (production fs is)
+sound_production fs is = (
   tt,
-  λ f h. (
-    sound_nonterminals infos (argument_categories fs f),
-    λ args k. (
-      tt,
-      λ result j.
-          sound_times (dimension_of infos result) _ (sound_sequence (map (dimension_of infos) args)),
+  λ k h. (
+    (
+      sound_nonterminals is _,
+      λ args i. (
+        (
+          tt,
+          λ result j. (
+            (
+              sound_times _ (dimension_of is result) (sound_sequence (map (dimension_of is) args)),
+              λ seqs l. (tt, λ p e. ap (λ (x : Prod). x.seqs) (sym e)),
+            ),
+            λ p e. ap (λ (x : Prod). x.result) (sym e.1),
+          ),
+        ),
+        λ p e. ap (λ (x : Prod). x.args) (sym e.1.1),
+      ),
     ),
+    λ p e. ap (λ (x : Prod). x.fun) (sym e.1.1.1),
   ),
 )
 
-sound_def : (infos : List Info) → IsSound (def_form infos)
-sound_def infos = (tt, λ result h. sound_times (dimension_of infos result) _ (sound_sequence (1 ∷ [])))
+sound_def : (is : List Info) → IsSound (def_form is)
+sound_def is = (
+  tt,
+  λ result h. (
+    (
+      sound_times _ (dimension_of is result) (sound_sequence (1 ∷ [])),
+      λ seqs k. (tt, λ d e. ap (λ (x : Def). x.seqs) (sym e)),
+    ),
+    λ d e. ap (λ (x : Def). x.result) (sym e.1),
+  ),
+)
 
-sound_ref : (infos : List Info) → IsSound (ref_form infos)
-sound_ref infos = (tt, λ arg h. sound_sequence (dimension_of infos arg ∷ []))
+sound_ref : (is : List Info) → IsSound (ref_form is)
+sound_ref is = (
+  tt,
+  λ arg h. (
+    (sound_sequence (dimension_of is arg ∷ []), λ seq k. (tt, λ r e. ap (λ (x : Ref). x.seq) (sym e))),
+    λ r e. ap (λ (x : Ref). x.arg) (sym e.1),
+  ),
+)
 
-sound_concrete : (categories : ℕ) (fs : List FunctionFields) → IsSound (concrete categories fs)
-sound_concrete categories fs = (
-  (tt, λ count fits. tt),
+sound_infos : (first n : ℕ) → IsSound (infos first n)
+sound_infos first zero = tt
+sound_infos first (suc n) = (
+  (
+    tt,
+    λ count h. (
+      (tt, λ dim k. (tt, λ i e. ap (λ (x : Info). x.dim) (sym e))),
+      λ i e. ap (λ (x : Info). x.count) (sym e.1),
+    ),
+  ),
+  λ i h. sound_infos (first + i.count) n,
+)
+
+sound_concrete : (a : Abstract) → IsSound (concrete a)
+sound_concrete a = (
+  (tt, λ c h. (tt, λ w k. k.0)),
   λ w h. (
-    sound_times categories info (tt, λ n k. tt),
-    λ is k. (
-      sound_ordered _ (sound_production fs (infos_of is)),
-      λ ps j.
-          (sound_ordered _ (sound_def (infos_of is)), λ ds i. sound_ordered _ (sound_ref (infos_of is))),
+    (
+      sound_infos 2 (length (listed a.cats)),
+      λ is i. (
+        (
+          sound_keyed _ _ (sound_production a.funs (literal_infos ++ is)),
+          λ ps j. (
+            (
+              sound_keyed _ _ (sound_def (literal_infos ++ is)),
+              λ ds k. (
+                (
+                  sound_keyed _ _ (sound_ref (literal_infos ++ is)),
+                  λ rs l. (tt, λ c e. ap (λ (x : Concrete). x.refs) (sym e)),
+                ),
+                λ c e. ap (λ (x : Concrete). x.defs) (sym e.1),
+              ),
+            ),
+            λ c e. ap (λ (x : Concrete). x.prods) (sym e.1.1),
+          ),
+        ),
+        λ c e. ap (λ (x : Concrete). listed x.infos) (sym e.1.1.1),
+      ),
     ),
+    λ c e. ap (λ (x : Concrete). x.name) (sym e.1.1.1.1),
   ),
 )
-
-sound_heading : IsSound heading
-sound_heading = (tt, λ m h. (tt, λ v i. ((tt, λ count fits. tt), λ w j. (tt, λ s k. (tt, λ n l. tt)))))
 
 pub sound_file : IsSound file
 sound_file = (
-  sound_heading,
-  λ h i. (
-    sound_ascending _ _ None _ (sound_category (sizes_in h)),
-    λ cs j. (
-      sound_ascending _ _ None _ (sound_function (sizes_in h)),
-      λ fs k.
-          (tt, λ n l. sound_ascending _ _ None n (sound_concrete (length cs) fs)),
+  tt,
+  λ magic h. (
+    (
+      tt,
+      λ version i. (
+        (
+          sound_abstract,
+          λ a j. (
+            (
+              sound_keyed _ _ (sound_concrete a),
+              λ cs k. (tt, λ g e. ap (λ (x : Abstract × List Concrete). x.1) (sym e)),
+            ),
+            λ g e. ap (λ (x : Abstract × List Concrete). x.0) (sym e.1),
+          ),
+        ),
+        λ g e. sym (eqb-true _ _ i.1),
+      ),
     ),
+    λ g e. (bytes_eq-Decides (codes "GFPT") magic).0 h.1,
   ),
 )

@@ -98,7 +98,7 @@ part_once (source e x) (portable h f c y) = absurd (endings_apart e f)
 part_once (portable g e b x) (source f y) = absurd (endings_apart f e)
 part_once (portable {bytes} g e b x) (portable {bytes = others} h f c y) =
     let same : bytes ≡ others = cc in
-    let both = reads_once g.abs h.abs g.concretes h.concretes x.grammar.fields y.grammar.fields
+    let both = reads_once g.abs h.abs g.concretes h.concretes x.grammar.fits y.grammar.fits
     (x.bytes_are ∙ same ∙ sym y.bytes_are) in
     λ i. record { abs = both.0 i; languages = map (λ (l : Concrete). (l.name, of_file l)) (both.1 i) }
 

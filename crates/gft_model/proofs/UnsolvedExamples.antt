@@ -1,5 +1,5 @@
 -- Worked example of a tree without a solution: `Do fan fan nope` of Home.
-use Rattle.std.proofs.Common.{◌≡◌, ◌≢◌, refl, sym, ap, ◌∙◌, subst, ℕ, zero, suc, List, [], ◌∷◌, true, false, arith, inl, inr}
+use Rattle.std.proofs.Common.{◌≡◌, refl, sym, ap, ◌∙◌, subst, ℕ, zero, suc, List, [], ◌∷◌, true, false, arith, inl, inr}
 use Rattle.std.specs.Prelude.{codes, bytes_eq, length, Contains, Some, None}
 use Rattle.std.specs.Cmp.Lexicographic.{slice_cmp}
 use Rattle.std.specs.Ordering.{nat_cmp, ordering_then}
@@ -15,7 +15,7 @@ use Rattle.gft_model.specs.Commands.{refusal}
 use Rattle.gft_model.specs.Trees.{subtree_at, subtree_of, child_at, filled}
 use Rattle.gft_model.specs.Typing.{HoleTypes, HasType, HaveTypes, type_at}
 use Rattle.gft_model.specs.Unsolved.{AppliesAt, MustHave, argument, HasCategory, application, integer, text, hole, IsWrongAt, unknown_fun, wrong_arity, wrong_category, ComesFirst, function_named, wrong, IsSolvable, IsUnsolved}
-use Rattle.gft_model.proofs.InfoExamples.{home, kind, indexed, do_fun, fan_fun}
+use Rattle.gft_model.proofs.InfoExamples.{home, indexed, do_fun, fan_fun}
 use Rattle.gft_model.proofs.TreeLemmas.{filled-App}
 use Rattle.gft_model.proofs.TypingLemmas.{applies, first_type, other_types}
 use Rattle.gft_model.proofs.UnsolvedLaws.{not_nil, applies_once, must_once, has_once}

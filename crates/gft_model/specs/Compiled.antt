@@ -13,10 +13,9 @@ use Rattle.gft_syntax.specs.declared.flat.Flat.{Flat}
 use Rattle.gft_syntax.specs.declared.value.Param.{Param}
 use Rattle.gft_model.specs.ConcreteTypes.{cases_of, string_cells}
 use Rattle.gft_model.specs.Fields.{Fits}
-use Rattle.gft_model.specs.FileForms.{concrete}
+use Rattle.gft_model.specs.FileForms.{listed, concrete}
 use Rattle.gft_model.specs.JudgementTyping.{Signature, signature_in}
 use Rattle.gft_model.specs.Languages.{lin_type}
-use Rattle.gft_model.specs.PortableFile.{listed, functions_of, concrete_fields}
 use Rattle.gft_model.specs.Productions.{CaseProduction, productions_of, defs_of, refs_of}
 use Rattle.gft_model.specs.Runs.{IsKept}
 use Rattle.gft_model.specs.Values.{each_same, same_param}
@@ -98,4 +97,4 @@ pub record Compiles (a : Abstract) (flat : Flat) (lang : List ℕ) (c : Concrete
       × IsKept (record c { prods = productions_from flat lang a.cats 0 a.funs }) p
   pub defs : (d : Def) → Contains c.defs d ↔ Contains (defs_in flat lang a.cats) d
   pub refs : (r : Ref) → Contains c.refs r ↔ Contains (refs_in flat lang a.cats) r
-  pub in_order : Fits (concrete (length (listed a.cats)) (functions_of a)) (concrete_fields c)
+  pub in_order : Fits (concrete a) c

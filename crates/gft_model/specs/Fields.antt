@@ -10,16 +10,12 @@ pub data Form : Type 0 → Type 1 where
   number : ℕ → Form ℕ
   -- so many bytes
   bytes : ℕ → Form (List ℕ)
-  -- one after the other; what is read first tells how to go on
-  both : {A B : Type 0} → Form A → (A → Form B) → Form (A × B)
-  -- no value is left
-  end : {A : Type 0} → Form (List A)
+  -- first a part of the value; what it is tells how to go on
+  part : {A B : Type 0} → (A → B) → Form B → (B → Form A) → Form A
+  -- no field is left: it is this value
+  done : {A : Type 0} → A → Form A
   -- one value, and then others
   item : {A : Type 0} → Form A → (A → Form (List A)) → Form (List A)
-  -- a value behind its tag
-  tagged : {A : Type 0} → (A → ℕ) → Form ℕ → (ℕ → Form A) → Form A
-  -- a value that is made of its parts
-  made : {A B : Type 0} → (B → A) → (A → B) → Form B → Form A
   -- what is read must pass, or the rule is broken, so many bytes before its first field
   such : {A : Type 0} → Form A → (A → Bool) → Rule → ℕ → Form A
 
@@ -37,25 +33,30 @@ number_after n (b ∷ bs) = number_after (n * 256 + b) bs
 abbrev pub written : {A : Type 0} → Form A → A → List ℕ
 written (number width) n = big_endian width n
 written (bytes count) bs = bs
-written (both f g) p = written f p.0 ++ written (g p.0) p.1
-written end xs = []
+written (part of f g) x = written f (of x) ++ written (g (of x)) x
+written (done y) x = []
 written (item f g) [] = []
 written (item f g) (x ∷ xs) = written f x ++ written (g x) xs
-written (tagged tag_of tag forms) x = written tag (tag_of x) ++ written (forms (tag_of x)) x
-written (made make parts_of f) x = written f (parts_of x)
 written (such f passes rule back) x = written f x
 
 -- the value is one of the form
 abbrev pub Fits : {A : Type 0} → Form A → A → Type 0
 Fits (number width) n = n < 256 ^ width
 Fits (bytes count) bs = length bs ≡ count
-Fits (both f g) p = Fits f p.0 × Fits (g p.0) p.1
-Fits end xs = xs ≡ []
+Fits (part of f g) x = Fits f (of x) × Fits (g (of x)) x
+Fits (done y) x = y ≡ x
 Fits (item f g) [] = ⊥
 Fits (item f g) (x ∷ xs) = Fits f x × Fits (g x) xs
-Fits (tagged tag_of tag forms) x = Fits tag (tag_of x) × Fits (forms (tag_of x)) x
-Fits (made make parts_of f) x = (make (parts_of x) ≡ x) × Fits f (parts_of x)
 Fits (such f passes rule back) x = Fits f x × (passes x ≡ true)
+
+-- how many bytes of a value stand before a place in it: so many parts or items, so many within the next, and so on
+abbrev pub offset_of : {A : Type 0} → Form A → A → List ℕ → ℕ
+offset_of (part of f g) x (zero ∷ place) = offset_of f (of x) place
+offset_of (part of f g) x (suc n ∷ place) = length (written f (of x)) + offset_of (g (of x)) x (n ∷ place)
+offset_of (item f g) (x ∷ xs) (zero ∷ place) = offset_of f x place
+offset_of (item f g) (x ∷ xs) (suc n ∷ place) = length (written f x) + offset_of (g x) xs (n ∷ place)
+offset_of (such f passes rule back) x place = offset_of f x place
+offset_of f x place = 0
 
 -- what reading gives: a value, with the offset and the bytes after it, or the first fault with its offset
 pub data Outcome (A : Type 0) : Type 0 where
@@ -75,16 +76,10 @@ block count at bs = if nat_le count (length bs) then got (take count bs) (at + c
 abbrev pub outcome : {A : Type 0} → Form A → ℕ → List ℕ → Outcome A
 outcome (number width) at bs = and_then (block width at bs) (λ b next rest. got (number_after 0 b) next rest)
 outcome (bytes count) at bs = block count at bs
-outcome (both f g) at bs =
-    and_then (outcome f at bs) (λ x next rest.
-    and_then (outcome (g x) next rest) (λ y last behind. got (x, y) last behind))
-outcome end at bs = got [] at bs
+outcome (part of f g) at bs = and_then (outcome f at bs) (λ y next rest. outcome (g y) next rest)
+outcome (done y) at bs = got y at bs
 outcome (item f g) at bs =
     and_then (outcome f at bs) (λ x next rest.
     and_then (outcome (g x) next rest) (λ xs last behind. got (x ∷ xs) last behind))
-outcome (tagged tag_of tag forms) at bs =
-    and_then (outcome tag at bs) (λ n next rest. outcome (forms n) next rest)
-outcome (made make parts_of f) at bs =
-    and_then (outcome f at bs) (λ y next rest. got (make y) next rest)
 outcome (such f passes rule back) at bs =
     and_then (outcome f at bs) (λ x next rest. if passes x then got x next rest else fault rule (at - back))

@@ -1,5 +1,5 @@
 -- Laws of the definitions.
-use Rattle.std.specs.Prelude.{◌≡◌, ℕ, List, [], length, map, Contains, Some, slice_get, ◌<◌, ◌∷◌, ⊤, ◌⊎◌}
+use Rattle.std.specs.Prelude.{◌≡◌, ℕ, List, [], length, map, Contains, Some, slice_get, ◌<◌, ◌∷◌, ⊤, ◌⊎◌, true}
 use Rattle.gft_core.specs.declared.symbol.Sym.{Sym}
 use Rattle.gft_core.specs.declared.tree.Tree.{Tree}
 use Rattle.gft_pmcfg.specs.declared.signature.AType.{AType}
@@ -9,13 +9,14 @@ use Rattle.gft_pmcfg.specs.declared.concrete.Prod.{Prod}
 use Rattle.gft_pmcfg.specs.declared.concrete.Concrete.{Concrete}
 use Rattle.gft_pmcfg.specs.declared.grammar.Grammar.{Grammar}
 use Rattle.gft_pmcfg.specs.declared.run.Run.{Run}
+use Rattle.gft_pmcfg.specs.Ranges.{is_in_range}
 use Rattle.gft_rules.specs.declared.rule.Rule.{Rule}
 use Rattle.gft_model.specs.Trees.{IsClosed, IsInstance}
 use Rattle.gft_model.specs.Typing.{HoleTypes, HasType, IsType}
 use Rattle.gft_model.specs.Flaws.{Flaw, HasTypeFlaw}
-use Rattle.gft_model.specs.Fields.{Fits, outcome, got, written}
-use Rattle.gft_model.specs.FileForms.{FileFields, file}
-use Rattle.gft_model.specs.PortableFile.{fields_of, file_bytes, Reads, HasFault, IsInvalid}
+use Rattle.gft_model.specs.Fields.{Fits, outcome, got}
+use Rattle.gft_model.specs.FileForms.{file}
+use Rattle.gft_model.specs.PortableFile.{file_bytes, Reads, HasFault, IsInvalid}
 use Rattle.gft_model.specs.Skeleton.{HoleCategories, HasSkeletonType}
 use Rattle.gft_model.specs.Brackets.{Piece, erased}
 use Rattle.gft_model.specs.Runs.{Strings, IsRun, IsRef, IsRunFor, components_of, yield_of, holes_of, tree_of}
@@ -119,8 +120,12 @@ FlawedIsNoType = (a : Abstract) (T : HoleTypes) (type : AType) (flaw : Flaw) →
 
 -- the fields of a file are read from its bytes, up to its end
 abbrev pub FieldsAreReadAgain : Type 0
-FieldsAreReadAgain = (a : Abstract) (cs : List Concrete) → Fits file (fields_of a cs)
-    → outcome file 0 (file_bytes a cs) ≡ got (fields_of a cs) (length (file_bytes a cs)) []
+FieldsAreReadAgain = (a : Abstract) (cs : List Concrete) → Fits file (a, cs)
+    → outcome file 0 (file_bytes a cs) ≡ got (a, cs) (length (file_bytes a cs)) []
+
+-- fields that fit the table are those of a grammar in range
+abbrev pub FieldsAreInRange : Type 0
+FieldsAreInRange = (a : Abstract) (cs : List Concrete) → Fits file (a, cs) → is_in_range a cs ≡ true
 
 -- the bytes of a grammar are at no fault
 abbrev pub GrammarHasNoFault : Type 0
@@ -149,7 +154,7 @@ AreBytes (b ∷ bs) = (b < 256) × AreBytes bs
 abbrev pub FaultOrFields : List ℕ → Type 0
 FaultOrFields bytes =
     ((rule : Rule) × (at : ℕ) × HasFault bytes rule at)
-    ⊎ ((x : FileFields) × Fits file x × (written file x ≡ bytes))
+    ⊎ ((a : Abstract) × (cs : List Concrete) × Fits file (a, cs) × (file_bytes a cs ≡ bytes))
 
 -- bytes that are at no fault are those of fields that fit the table
 abbrev pub BytesHaveFaultOrFields : Type 0

@@ -48,6 +48,7 @@ pub mod Listing
 pub mod Sentences
 pub mod Flaws
 pub mod Fields
+pub mod Numbering
 pub mod FileForms
 pub mod PortableFile
 pub mod Laws

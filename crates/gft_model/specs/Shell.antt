@@ -13,7 +13,7 @@ use Rattle.gft_model.specs.AbstractInfo.{judgement_lines}
 use Rattle.gft_model.specs.Commands.{Verb, Import, Empty, Quit, AbstractInfo, WritePortable, Argument, Nothing, Name, Command, Read, Pipe, Refused, refusal, keys_of, ReadsLine}
 use Rattle.gft_model.specs.Commands as argument
 use Rattle.gft_model.specs.PortableFile.{Reads}
-use Rattle.gft_model.specs.Replies.{Item, line_of, category_for, languages_for, Runs, item_of}
+use Rattle.gft_model.specs.Replies.{line_of, category_for, languages_for, Runs, item_of}
 use Rattle.gft_model.specs.States.{Kept, Loaded, State, Sources, IsImported, Joins, StandsFor}
 
 -- the state of a session, and the files

@@ -1,5 +1,5 @@
 //! Laws of the definitions. Each function does nothing; its clause is the law.
-ghost use Rattle.gft_model.specs.Laws.{CutCoversTree, ListedCoversTree, SolutionIsUnique, ErasedIsString, YieldIsDetermined, NonterminalIsDetermined, ValueIsOfRun, RunGivesValue, StringIsOfRun, RunGivesString, TypeIsDetermined, TypedHasSkeletonType, FlawedIsNoType, FieldsAreReadAgain, GrammarHasNoFault, FaultIsDetermined, FileIsOfOneGrammar, GrammarIsNotInvalid, BytesHaveFaultOrFields, FlawIsDetermined};
+ghost use Rattle.gft_model.specs.Laws.{CutCoversTree, ListedCoversTree, SolutionIsUnique, ErasedIsString, YieldIsDetermined, NonterminalIsDetermined, ValueIsOfRun, RunGivesValue, StringIsOfRun, RunGivesString, TypeIsDetermined, TypedHasSkeletonType, FlawedIsNoType, FieldsAreReadAgain, FieldsAreInRange, GrammarHasNoFault, FaultIsDetermined, FileIsOfOneGrammar, GrammarIsNotInvalid, BytesHaveFaultOrFields, FlawIsDetermined};
 
 /// The solution of a pattern is unique: it fixes the numbers of its holes too.
 pub fn solution_is_unique()
@@ -72,6 +72,11 @@ pub fn flawed_is_no_type()
 /// The fields of a portable file are read from its bytes, and nothing is left behind them.
 pub fn fields_are_read_again()
     ensures { FieldsAreReadAgain }
+{}
+
+/// Fields that fit the table of the portable file are those of a grammar in range.
+pub fn fields_are_in_range()
+    ensures { FieldsAreInRange }
 {}
 
 /// The bytes of a grammar are at no fault, and nothing stands behind them.
