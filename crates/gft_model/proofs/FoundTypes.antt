@@ -1,5 +1,8 @@
 -- A term has at most one found type, and at most one typed term that it means.
 use Rattle.std.proofs.Common.{◌≡◌, ap, sym, ◌∙◌, subst, refl, ℕ, List, [], ◌∷◌, Some, None, true, false, ◌==◌, rules}
+use Rattle.std.specs.List.{list_all}
+use Rattle.std.specs.Option.{is_some}
+use Rattle.std.specs.Prelude.{Bool, ◌&&◌}
 use Rattle.gft_core.specs.declared.place.Place.{Place}
 use Rattle.gft_syntax.specs.declared.bind.Bind.{Bind}
 use Rattle.gft_syntax.specs.declared.ctype.CType.{CType, out-CType}
@@ -14,8 +17,9 @@ use Rattle.gft_syntax.specs.declared.term.Local.{Local}
 use Rattle.gft_syntax.specs.declared.term.Sort.TheVariants as Sort
 use Rattle.gft_syntax.specs.declared.term.Term.{Term}
 use Rattle.gft_syntax.specs.declared.term.Term.TheOpen as F
-use Rattle.gft_model.specs.ConcreteTypes.{IsSubtype, equal, fewer_labels, tables, numbers, functions}
-use Rattle.gft_model.specs.ConcreteTyping.{is_record, is_type_form, is_table_expression, passes, Spine, applied_to, at_head, Fits, same, cut, sort, IsType, IsHead, Takes, takes_none, takes, Suits, Chosen, parameter_of, AreLabels, no_label, label, text_type, type_of_types, type_of_parameters, numbers_to, labels, table_over, function_from, pair_of, parameters_named, oper_named, definition_named, with_names, with_lets, Finds, Checks, ChecksLambda, body, binds, ChecksTable, cell, over, ChecksArguments, no_argument_left, next_argument, FindsAll, none_found, next_found, MembersFind, first_member, MembersCheck, no_member, member, BranchesFind, first_branch, BranchesCheck, no_branch, branch, FieldsHave, no_field, value_given, value_found, typed_given, typed_alone, Defines, no_local, local, typed_local, variable, constructor_name, typed_oper, untyped_oper, alternative_alone, parameter_name, literal, append, glue, number, predef, projection, application, overloaded, selection, branch_over, branch_of, item_of, case_found, table_found, list_found, record_found, extension, typed, let_found, variants_found, lambda, table_lambda, branches, branches_over, listed, record_given, let_given, case_given, variants_given, empty_type, parameter_given, found, type_form}
+use Rattle.gft_syntax.specs.Parts.{is_value}
+use Rattle.gft_model.specs.ConcreteTypes.{record_in, table_in, IsSubtype, equal, fewer_labels, tables, numbers, functions}
+use Rattle.gft_model.specs.ConcreteTyping.{is_type_form, is_table_expression, passes, Spine, applied_to, at_head, Fits, same, cut, sort, IsType, IsHead, Takes, takes_none, takes, Suits, Chosen, parameter_of, AreLabels, no_label, label, text_type, type_of_types, type_of_parameters, numbers_to, labels, table_over, function_from, pair_of, parameters_named, oper_named, definition_named, with_names, with_lets, Finds, Checks, ChecksLambda, body, binds, ChecksTable, cell, over, ChecksArguments, no_argument_left, next_argument, FindsAll, none_found, next_found, MembersFind, first_member, MembersCheck, no_member, member, BranchesFind, first_branch, BranchesCheck, no_branch, branch, FieldsHave, no_field, value_given, value_found, typed_given, typed_alone, Defines, no_local, local, typed_local, variable, constructor_name, typed_oper, untyped_oper, alternative_alone, parameter_name, literal, append, glue, number, predef, projection, application, overloaded, selection, branch_over, branch_of, item_of, case_found, table_found, list_found, record_found, extension, typed, let_found, variants_found, lambda, table_lambda, branches, branches_over, listed, record_given, let_given, case_given, variants_given, empty_type, parameter_given, found, type_form}
 use Rattle.gft_model.specs.Items.{Item}
 use Rattle.gft_model.specs.PatternTyping.{Scope}
 use Rattle.gft_model.specs.TypeForms.{form, record_type}
@@ -139,6 +143,13 @@ no-fit_record sort h = let i = out-roll-CType C.ParamSort in cc
 
 passes-clash : {e f : Term} {S T : CType} {l : F.Term-F Term} → form e ≡ l → e ≡ f → S ≡ T → passes l (out-CType S) ≡ true → passes (form f) (out-CType T) ≡ false → ⊥
 passes-clash {l = l} h e s i j = cc
+
+-- what is given a type of its kind passes it on
+pub record-passes : (ls : List (Local Term)) (p : Place) (T : CType) {gs : List (List ℕ × CType)} → list_all is_value ls ≡ true → out-CType T ≡ C.Record gs → passes (F.Fields ls p) (out-CType T) ≡ true
+record-passes ls p T h k = ap (λ (b : Bool). b && is_some (record_in (out-CType T))) h ∙ ap (λ (d : C.CType-F CType). is_some (record_in d)) k
+
+table-passes : (T : CType) {P V : CType} → out-CType T ≡ C.Table P V → is_some (table_in (out-CType T)) ≡ true
+table-passes T h = ap (λ (d : C.CType-F CType). is_some (table_in d)) h
 
 same-names : {xs ys : List (List ℕ)} {T U : CType} {Γ Δ : Scope} → xs ≡ ys → T ≡ U → Γ ≡ Δ → with_names xs T Γ ≡ with_names ys U Δ
 same-names {ys = ys} {T = T} {U = U} {Γ = Γ} e f g =
@@ -309,6 +320,14 @@ module _ (items : List Item) where
   fields-empty (typed_given a0 a1 a2 a3 a4) e = cc
   fields-empty (typed_alone a0 a1 a2 a3 a4) e = cc
 
+  -- fields as written are values
+  pub all-values : {Γ : Scope} {gs fs : List (List ℕ × CType)} {ls : List (Local Term)} {ts : List (List ℕ × LinTerm)} → FieldsHave items Γ gs ls fs ts → list_all is_value ls ≡ true
+  all-values no_field = refl
+  all-values (value_given a0 a1 a2) = all-values a2
+  all-values (value_found a0 a1 a2 a3) = all-values a3
+  all-values (typed_given a0 a1 a2 a3 a4) = all-values a4
+  all-values (typed_alone a0 a1 a2 a3 a4) = all-values a4
+
   -- {} is found to be the empty record
   empty-found : {Γ : Scope} {f : Term} {T : CType} {t : LinTerm} {p : Place} → Finds items Γ f T t → form f ≡ F.Fields [] p → T ≡ record_type []
   empty-found (variable a0 a1) h = cc
@@ -476,16 +495,16 @@ module _ (items : List Item) where
     check-once (branches a0 a1 a2 a3) (found b0 b1 b2) g e s = absurd (passes-clash a0 e s refl b0)
     check-once (branches a0 a1 a2 a3) d g e s = absurd (apart-tags _ _ refl (same-tag a0 e (check_form_is d)))
     check-once (branches_over a0 a1 a2 a3 a4) (branches_over b0 b1 b2 b3 b4) g e s = let i = branches-checked a3 b3 g (cc) (cc) (cc) in cc
-    check-once (found a0 a1 a2) (branches_over b0 b1 b2 b3 b4) g e s = absurd (passes-clash b0 (sym e) (sym s) refl a0)
-    check-once (branches_over a0 a1 a2 a3 a4) (found b0 b1 b2) g e s = absurd (passes-clash a0 e s refl b0)
+    check-once (found a0 a1 a2) (branches_over b0 b1 b2 b3 b4) g e s = absurd (passes-clash b0 (sym e) (sym s) (table-passes _ b1) a0)
+    check-once (branches_over a0 a1 a2 a3 a4) (found b0 b1 b2) g e s = absurd (passes-clash a0 e s (table-passes _ a1) b0)
     check-once (branches_over a0 a1 a2 a3 a4) d g e s = absurd (apart-tags _ _ refl (same-tag a0 e (check_form_is d)))
     check-once (listed a0 a1 a2 a3 a4) (listed b0 b1 b2 b3 b4) g e s = let i = members-checked a3 b3 g (cc) (cc) in cc
-    check-once (found a0 a1 a2) (listed b0 b1 b2 b3 b4) g e s = absurd (passes-clash b0 (sym e) (sym s) refl a0)
-    check-once (listed a0 a1 a2 a3 a4) (found b0 b1 b2) g e s = absurd (passes-clash a0 e s refl b0)
+    check-once (found a0 a1 a2) (listed b0 b1 b2 b3 b4) g e s = absurd (passes-clash b0 (sym e) (sym s) (table-passes _ b1) a0)
+    check-once (listed a0 a1 a2 a3 a4) (found b0 b1 b2) g e s = absurd (passes-clash a0 e s (table-passes _ a1) b0)
     check-once (listed a0 a1 a2 a3 a4) d g e s = absurd (apart-tags _ _ refl (same-tag a0 e (check_form_is d)))
     check-once (record_given a0 a1 a2 a3) (record_given b0 b1 b2 b3) g e s = let i = fields-have a2 b2 g (cc) (cc) in fits-same a3 b3 (cc) s (cc)
-    check-once (found a0 a1 a2) (record_given b0 b1 b2 b3) g e s = absurd (passes-clash b0 (sym e) (sym s) (ap is_record b1) a0)
-    check-once (record_given a0 a1 a2 a3) (found b0 b1 b2) g e s = absurd (passes-clash a0 e s (ap is_record a1) b0)
+    check-once (found a0 a1 a2) (record_given {ls = ls} {p = p} b0 b1 b2 b3) g e s = absurd (passes-clash b0 (sym e) (sym s) (record-passes ls p _ (all-values b2) b1) a0)
+    check-once (record_given {ls = ls} {p = p} a0 a1 a2 a3) (found b0 b1 b2) g e s = absurd (passes-clash a0 e s (record-passes ls p _ (all-values a2) a1) b0)
     check-once (record_given a0 a1 a2 a3) (empty_type b0) g e s = let i = out-roll-CType C.TypeSort in cc
     check-once (record_given a0 a1 a2 a3) d g e s = absurd (apart-tags _ _ refl (same-tag a0 e (check_form_is d)))
     check-once (let_given a0 a1 a2) (let_given b0 b1 b2) g e s = let i = defines-once a1 b1 g (cc) in same-lets i.1 (check-once a2 b2 i.0 (cc) s)

@@ -1,5 +1,5 @@
 -- A worked example of a fault of types: a table over N = One | Two that leaves out Two, at 3:23 of ExhEng.gf.
-use Rattle.std.proofs.Common.{◌≡◌, ap, refl, ℕ, List, [], ◌∷◌, None, subst, inl, inr, arith}
+use Rattle.std.proofs.Common.{◌≡◌, ap, refl, ℕ, List, [], ◌∷◌, None, Some, subst, inl, inr, arith}
 use Rattle.std.specs.Prelude.{codes}
 use Rattle.gft_core.specs.declared.place.Place.{Place}
 use Rattle.gft_rules.specs.declared.rule.Rule.TheVariants as R
@@ -25,7 +25,7 @@ use Rattle.gft_syntax.specs.declared.term.Term.TheViews.{out-roll-Term}
 use Rattle.gft_syntax.specs.declared.value.Param.{Param}
 use Rattle.gft_syntax.specs.declared.value.Param.TheViews.{out-roll-Param}
 use Rattle.gft_syntax.specs.declared.value.Param.TheFolds.{fold-roll-Param}
-use Rattle.gft_model.specs.ConcreteTypes.{count_of}
+use Rattle.gft_model.specs.ConcreteTypes.{count_of, values_of, table_in}
 use Rattle.gft_model.specs.ConcreteTyping.{IsType, IsParameter, IsDomain, text_type, table_over, parameters_named, parameter_of, no_constructor, constructor, no_argument}
 use Rattle.gft_model.specs.Items.{items_of}
 use Rattle.gft_model.specs.JudgementTyping.{IsSort}
@@ -33,7 +33,7 @@ use Rattle.gft_model.specs.Refusals.{refusal}
 use Rattle.gft_model.specs.TypeFaults
 use Rattle.gft_model.specs.TypeTexts.{Written, param_step, param_text}
 use Rattle.gft_syntax.specs.Terms.{place_of, layer_place}
-use Rattle.gft_model.specs.TypeForms.{str_type, table_type}
+use Rattle.gft_model.specs.TypeForms.{form, str_type, table_type}
 use Rattle.gft_model.specs.TypingSites
 use Rattle.gft_model.specs.ValueForms.{con_param}
 use Rattle.gft_model.proofs.Computing.{form-roll, match-roll}
@@ -120,16 +120,14 @@ one = con_param (whole (codes "One")) []
 two : Param
 two = con_param (whole (codes "Two")) []
 
-leaves_two : TypeFaults.LeavesOut table_term number two
+leaves_two : TypeFaults.left_out (form table_term) (values_of number) ≡ Some two
 unfolding one two
-leaves_two =
-    TypeFaults.no_branch_for (one ∷ []) [] (TypeFaults.of_table (form-roll _)) (simp fold-roll-CType) (simp (match-roll, out-roll-Param))
-    (simp (match-roll, out-roll-Param))
+leaves_two = simp (form-roll, fold-roll-CType, match-roll, out-roll-Param)
 
 found_there : TypeFaults.BreaksTypes exh [] (whole (codes "t")) oper_t (2 ∷ []) (refusal R.NotExhaustive (place_of table_term) (param_text two ∷ []))
 found_there =
     TypeFaults.in_sites (TypeFaults.at_term stands
-    (TypeFaults.value_left_out (TypeFaults.over_given (form-roll _) TypeFaults.a_type (ap TypingSites.table_in (out-roll-CType _))) few leaves_two))
+    (TypeFaults.value_left_out (TypeFaults.over_given (form-roll _) refl (ap table_in (out-roll-CType _))) few leaves_two))
 
 place_of_table : place_of table_term ≡ here 3 23
 place_of_table = ap layer_place (out-roll-Term _)

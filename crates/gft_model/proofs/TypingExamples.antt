@@ -24,14 +24,14 @@ use Rattle.gft_syntax.specs.declared.term.Sort.TheVariants as Sort
 use Rattle.gft_syntax.specs.declared.term.Term.{Term, roll-Term}
 use Rattle.gft_syntax.specs.declared.term.Term.TheOpen as F
 use Rattle.gft_model.specs.ConcreteTypes.{HasLabels, field_of, fewer_labels, tables, numbers, functions, label, no_label, equal, values_of}
-use Rattle.gft_model.specs.ConcreteTyping.{empty_type, sort, Fits, FieldsHave, is_record, typed_given, typed_alone, IsData, IsType, Finds, Checks, Covers, patterns, passes, Takes, takes, takes_none, Suits, overloaded, text_type, function_from, next_found, none_found, found, append, literal, number, same, cut, predef, application, applied_to, at_head, next_argument, no_argument_left, record_given, value_given, value_found, no_field, branches, branch, no_branch}
+use Rattle.gft_model.specs.ConcreteTyping.{empty_type, sort, Fits, FieldsHave, typed_given, typed_alone, IsData, IsType, Finds, Checks, Covers, patterns, passes, Takes, takes, takes_none, Suits, overloaded, text_type, function_from, next_found, none_found, found, append, literal, number, same, cut, predef, application, applied_to, at_head, next_argument, no_argument_left, record_given, value_given, value_found, no_field, branches, branch, no_branch}
 use Rattle.gft_model.specs.Items.{Item, alternative}
 use Rattle.gft_model.specs.Matching.{match_of, is_matched, parameter}
 use Rattle.gft_model.specs.PatternTyping.{pattern_form, no_more, Scope, PatternFits, Constructs, arguments_of, sequence, variable, literal as text_literal, constructor_with}
 use Rattle.gft_model.specs.TypeForms.{FieldTypes, FieldTerms, record_type, form, str_type, number_type, table_type, function_type, predef_term, greatest, made}
 use Rattle.gft_model.proofs.Computing.{form-roll, pattern_form-roll, match-roll}
 use Rattle.gft_model.proofs.TypeLaws.{type-once}
-use Rattle.gft_model.proofs.FoundTypes.{find-once, fields-empty, check_form_is, same-tag, apart-tags}
+use Rattle.gft_model.proofs.FoundTypes.{find-once, fields-empty, check_form_is, same-tag, apart-tags, record-passes}
 use Rattle.gft_model.proofs.PatternLaws.{form_is}
 
 abbrev nowhere : Place
@@ -182,7 +182,7 @@ module _ (items : List Item) where
       let k = form-roll (F.Fields n_alone nowhere) in let l : ls ≡ n_alone = cc in let u = only_n c l in
       not_fitting u.0 (subst (λ (gs : FieldTypes). Fits (record_type gs) T (made (L.Record ts)) t) u.1 d) (out-roll-CType _) h
   record_lacks_s {T = T} (found a b c) h =
-      let k : false ≡ true = sym a ∙ ap (λ d. passes d (out-CType T)) (form-roll _) ∙ ap is_record h in cc
+      let k : false ≡ true = sym a ∙ ap (λ d. passes d (out-CType T)) (form-roll _) ∙ record-passes n_alone nowhere T refl h in cc
   record_lacks_s (empty_type a) h = let k = out-roll-CType C.TypeSort in cc
   record_lacks_s d h = absurd (apart-tags _ _ refl (same-tag (form-roll _) refl (check_form_is items d)))
 

@@ -120,6 +120,19 @@ abbrev pub field_of : {A : Type 0} → List ℕ → List (List ℕ × A) → Opt
 field_of l [] = None
 field_of l (f ∷ fs) = if bytes_eq l f.0 then Some f.1 else field_of l fs
 
+-- the fields of a record type, the sides of a table type, and those of a function type
+abbrev pub record_in : CType-F CType → Option (List (List ℕ × CType))
+record_in (CType-F.Record fs) = Some fs
+record_in T = None
+
+abbrev pub table_in : CType-F CType → Option (CType × CType)
+table_in (CType-F.Table P V) = Some (P, V)
+table_in T = None
+
+abbrev pub function_in : CType-F CType → Option (CType × CType)
+function_in (CType-F.Fun A B) = Some (A, B)
+function_in T = None
+
 mutual
   -- S is a subtype of T
   pub data IsSubtype : CType → CType → Type 0 where

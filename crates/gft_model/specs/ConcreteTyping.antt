@@ -1,17 +1,16 @@
 -- Concrete typing: which types are found for terms and which terms fit a given type, each with the
 -- typed term that says what the term means.
-use Rattle.std.specs.Prelude.{◌≡◌, ℕ, ◌≤◌, List, [], ◌∷◌, ◌++◌, map, reverse, length, ◌⊎◌, Option, Some, None, IsTrue, Bool, true, false}
+use Rattle.std.specs.Prelude.{◌≡◌, ℕ, ◌≤◌, List, [], ◌∷◌, ◌++◌, map, reverse, length, ◌⊎◌, Option, Some, None, IsTrue, Bool, true, false, ◌&&◌}
+use Rattle.std.specs.Option.{is_some}
 use Rattle.std.specs.List.{list_all, list_any}
 use Rattle.gft_core.specs.Words.{words_of}
 use Rattle.gft_core.specs.declared.place.Place.{Place}
 use Rattle.gft_syntax.specs.declared.bind.Bind.{Bind}
 use Rattle.gft_syntax.specs.declared.ctype.CType.{CType, out-CType}
 use Rattle.gft_syntax.specs.declared.ctype.CType.TheOpen as CType-F
-use Rattle.gft_syntax.specs.declared.judgement.Constructor.{Constructor}
 use Rattle.gft_syntax.specs.declared.linear.Branches.TheVariants.{Matched, Listed}
 use Rattle.gft_syntax.specs.declared.linear.LinTerm.{LinTerm}
 use Rattle.gft_syntax.specs.declared.linear.LinTerm.TheOpen as Lin-F
-use Rattle.gft_syntax.specs.declared.linear.Predef.{Predef}
 use Rattle.gft_syntax.specs.declared.pattern.Pattern.{Pattern}
 use Rattle.gft_syntax.specs.declared.reference.Whole.{Whole}
 use Rattle.gft_syntax.specs.declared.reference.Reference.TheVariants.{Written, Whole as WholeName}
@@ -21,8 +20,10 @@ use Rattle.gft_syntax.specs.declared.term.Local.TheVariants.{Value, TypedValue}
 use Rattle.gft_syntax.specs.declared.term.Sort.TheVariants as Sort-V
 use Rattle.gft_syntax.specs.declared.term.Term.{Term}
 use Rattle.gft_syntax.specs.declared.term.Term.TheOpen as Term-F
+use Rattle.gft_syntax.specs.declared.value.Param.{Param}
+use Rattle.gft_syntax.specs.Parts.{is_value}
 use Rattle.gft_syntax.specs.Terms.{Layer}
-use Rattle.gft_model.specs.ConcreteTypes.{field_of, count_of, values_of, IsSubtype}
+use Rattle.gft_model.specs.ConcreteTypes.{field_of, count_of, values_of, record_in, table_in, IsSubtype}
 use Rattle.gft_model.specs.Items.{Item, alternative}
 use Rattle.gft_model.specs.Matching.{parameter, match_of, is_matched}
 use Rattle.gft_model.specs.PatternTyping.{Scope, PatternFits, Constructs}
@@ -30,9 +31,13 @@ use Rattle.gft_model.specs.TypeForms.{FieldTypes, FieldTerms, BranchTerms, Local
 use Rattle.gft_model.specs.Values.{extended}
 pub use Rattle.gft_model.specs.WrittenTypes.{IsData, most_values, IsDomain, for_each, Standing, a_parameter, a_constructor, an_oper, an_overload, nothing, is_constructor, standing_from, At, Stands, IsType, text_type, type_of_types, type_of_parameters, numbers_to, labels, table_over, function_from, pair_of, parameters_named, oper_named, definition_named, IsParameter, parameter_of, AreConstructors, no_constructor, constructor, AreArguments, no_argument, arguments, AreLabels, no_label, label, AreFactors, last_factor, next_factor}
 
+-- some pattern matches the value
+abbrev pub is_covered : List Pattern → Param → Bool
+is_covered ps v = list_any (λ p. is_matched (match_of p (parameter v))) ps
+
 -- each value of the type is matched by some pattern
 abbrev pub Covers : CType → List Pattern → Type 0
-Covers P ps = IsTrue (list_all (λ v. list_any (λ p. is_matched (match_of p (parameter v))) ps) (values_of P))
+Covers P ps = IsTrue (list_all (is_covered ps) (values_of P))
 
 -- what may be selected over directly: a domain whose values are covered, or texts
 abbrev pub IsCovered : CType → List Pattern → Type 0
@@ -48,22 +53,18 @@ pub data Fits : CType → CType → LinTerm → LinTerm → Type 0 where
   cut : {S T t : _} → ¬ (S ≡ T) → IsSubtype S T → Fits S T t (made (Lin-F.Cut t S T))
   sort : {t : _} → Fits sort_param sort_type t t
 
--- a record type
-abbrev pub is_record : CType-F.CType-F CType → Bool
-is_record (CType-F.Record fs) = true
-is_record T = false
-
--- forms that pass a given type on to their parts; every other form is found, and so is a record where
--- no record type is given
+-- forms that pass a given type on to their parts; every other form is found, and so are a record and a table with
+-- its type where no type of their kind is given
 abbrev pub passes : Layer → CType-F.CType-F CType → Bool
 passes (Term-F.Fun xs e place) T = true
 passes (Term-F.TabFun xs e place) T = true
 passes (Term-F.Let ls e place) T = true
 passes (Term-F.CaseOf e cs place) T = true
 passes (Term-F.Variants es place) T = true
-passes (Term-F.TableOf P cs place) T = true
-passes (Term-F.TableList P es place) T = true
-passes (Term-F.Fields ls place) T = is_record T
+passes (Term-F.TableOf None cs place) T = true
+passes (Term-F.TableOf (Some P) cs place) T = is_some (table_in T)
+passes (Term-F.TableList P es place) T = is_some (table_in T)
+passes (Term-F.Fields ls place) T = list_all is_value ls && is_some (record_in T)
 passes d T = false
 
 -- a table expression: one that stands on the left of ! is selected from directly

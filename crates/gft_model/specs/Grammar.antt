@@ -1,6 +1,6 @@
 -- The grammar of terms, of patterns and of what judgements and headers are made of: which tokens spell
 -- which, up to which rest. A line of the tables of the language is a constructor here, named after its form.
-use Rattle.std.specs.Prelude.{◌≡◌, ℕ, List, [], ◌∷◌, flat_map, Bool, true, false, not, ◌&&◌, ◌||◌, bytes_eq, Option, Some, None}
+use Rattle.std.specs.Prelude.{◌≡◌, ℕ, List, [], ◌∷◌, flat_map, Bool, true, not, ◌&&◌, ◌||◌, bytes_eq, Option, Some, None}
 use Rattle.std.specs.List.{list_any, list_all}
 use Rattle.gft_core.specs.declared.place.Place.{Place}
 use Rattle.gft_syntax.specs.declared.bind.Bind.{Bind}
@@ -31,7 +31,7 @@ use Rattle.gft_syntax.specs.declared.token.SourceToken.{SourceToken}
 use Rattle.gft_syntax.specs.declared.token.Symbol.{Symbol as Sign}
 use Rattle.gft_syntax.specs.declared.token.Symbol.TheVariants as S
 use Rattle.gft_syntax.specs.declared.token.TokenForm.TheVariants.{Identifier, Reserved, Number, Quoted, Symbol}
-use Rattle.gft_syntax.specs.Parts.{local_names}
+use Rattle.gft_syntax.specs.Parts.{local_names, is_value}
 use Rattle.gft_model.specs.JudgementTyping.{list_name}
 
 -- tokens of a file
@@ -75,12 +75,6 @@ placed x t = record { name = x; place = t.place }
 abbrev pub distinct : List (List ℕ) → Bool
 distinct [] = true
 distinct (x ∷ xs) = not (list_any (bytes_eq x) xs) && distinct xs
-
--- a local or field with =
-abbrev pub is_value : {A : Type 0} → Local A → Bool
-is_value (Value xs e) = true
-is_value (Label xs t) = false
-is_value (TypedValue xs t e) = true
 
 -- fields are all with = or all with : alone, and no label stands twice
 abbrev pub are_fields : {A : Type 0} → List (Local A) → Bool

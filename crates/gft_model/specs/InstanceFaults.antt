@@ -1,13 +1,11 @@
 -- Faults of an instance: what it gives for a constant has not the type that its interface declares.
-use Rattle.std.specs.Prelude.{◌≡◌, ◌≢◌, ℕ, suc, List, [], ◌∷◌, ◌++◌, map, length, Contains, Option, Some, None, slice_get, if◌then◌else◌}
+use Rattle.std.specs.Prelude.{◌≡◌, ◌≢◌, ℕ, suc, List, [], ◌∷◌, ◌++◌, map, length, Contains, Some, None, slice_get, if◌then◌else◌}
 use Rattle.std.specs.List.{AllZip}
 use Rattle.gft_core.specs.declared.place.Place.{Place}
 use Rattle.gft_rules.specs.declared.refusal.Refusal.{Refusal}
 use Rattle.gft_rules.specs.declared.rule.Rule.TheVariants as R
-use Rattle.gft_syntax.specs.declared.ctype.CType.{CType}
 use Rattle.gft_syntax.specs.declared.flat.Flat.{Flat}
 use Rattle.gft_syntax.specs.declared.flat.FlatJudgement.{FlatJudgement}
-use Rattle.gft_syntax.specs.declared.judgement.Constructor.{Constructor}
 use Rattle.gft_syntax.specs.declared.judgement.Definition.TheVariants as D
 use Rattle.gft_syntax.specs.declared.judgement.Judgement.{Judgement}
 use Rattle.gft_syntax.specs.declared.judgement.Judgement.TheVariants as J
@@ -22,13 +20,14 @@ use Rattle.gft_model.specs.ConcreteTyping.{IsType, Stands, a_parameter, an_oper,
 use Rattle.gft_model.specs.Flats.{AreMeanings, whole_of}
 use Rattle.gft_model.specs.Items.{Item, alternative}
 use Rattle.gft_model.specs.JudgementOrder.{answered}
+use Rattle.gft_model.specs.JudgementTyping.{items}
 use Rattle.gft_model.specs.Matching.{same_whole}
 use Rattle.gft_model.specs.Modules.{placed_names, Has, HasNameable, Writes, Declared, copy, main_name}
 use Rattle.gft_model.specs.Refusals.{Moment, refusal, name_moment}
 use Rattle.gft_model.specs.Resolution.{Names, resolved}
 use Rattle.gft_model.specs.TypeFaults.{BreaksSites}
 use Rattle.gft_model.specs.TypeForms.{form, sort_param}
-use Rattle.gft_model.specs.TypingSites.{any_role, type_site, judgement_sites, items, FoundFor}
+use Rattle.gft_model.specs.TypingSites.{any_role, type_site, judgement_sites, FoundFor}
 
 -- what is declared of an oper: its type, or those of the alternatives of an overload; of a parameter type
 -- that it is one

@@ -1,12 +1,14 @@
 -- What typing gives for each numbered judgement: its typed term and the type of that.
 use Rattle.std.specs.Prelude.{◌≡◌, ℕ, List, [], ◌∷◌, ◌++◌, replicate, bytes_eq, if◌then◌else◌, Option, Some, None, ◌⊎◌, codes, Contains}
+use Rattle.std.specs.List.{AllZip}
 use Rattle.gft_syntax.specs.declared.ctype.CType.{CType, roll-CType}
 use Rattle.gft_syntax.specs.declared.ctype.CType.TheOpen as CType-F
 use Rattle.gft_syntax.specs.declared.flat.Flat.{Flat}
 use Rattle.gft_syntax.specs.declared.flat.FlatJudgement.{FlatJudgement}
-use Rattle.gft_syntax.specs.declared.judgement.Constructor.{Constructor}
 use Rattle.gft_syntax.specs.declared.judgement.Judgement.{Judgement}
 use Rattle.gft_syntax.specs.declared.judgement.Judgement.TheVariants as Judgement-V
+use Rattle.gft_syntax.specs.declared.judgement.Keyword.{Keyword}
+use Rattle.gft_syntax.specs.declared.judgement.Keyword.TheVariants as K
 use Rattle.gft_syntax.specs.declared.linear.LinTerm.{LinTerm}
 use Rattle.gft_syntax.specs.declared.linear.LinTerm.TheOpen as Lin-F
 use Rattle.gft_syntax.specs.declared.reference.Reference.{Reference}
@@ -85,10 +87,12 @@ module _ (flat : Flat) where
     of_category : {w : Whole} {e T : _} → Contains items (lincat lang w e) → IsType items e T → IsData T →
         HasLinType lang w.name T
 
-  -- those of several categories
-  pub data HaveLinTypes (lang : List ℕ) : List (List ℕ) → List CType → Type 0 where
-    no_more : HaveLinTypes lang [] []
-    more : {C Cs T Ts : _} → HasLinType lang C T → HaveLinTypes lang Cs Ts → HaveLinTypes lang (C ∷ Cs) (T ∷ Ts)
+  -- the type that the lin of a function is given, and those of the lindef and the linref of a category
+  pub data HasGiven (lang : List ℕ) : Keyword → List ℕ → CType → Type 0 where
+    of_function : {f : _} {s : Signature} (Ts : List CType) {T : _} → signature_in flat.funs f ≡ Some s →
+        AllZip (HasLinType lang) s.arguments Ts → HasLinType lang s.result T → HasGiven lang K.Lin f (functions Ts T)
+    from_string : {C T : _} → HasLinType lang C T → HasGiven lang K.Lindef C (function_type str_type T)
+    to_string : {C T : _} → HasLinType lang C T → HasGiven lang K.Linref C (function_type T str_type)
 
   -- what is written before the word overload, where something is, is a type
   pub data IsWritten : Option Term → Type 0 where
@@ -112,13 +116,12 @@ module _ (flat : Flat) where
     of_overload : {w e D d T t : _} → IsWritten e → IsType items D T → Checks items [] d T t → NoCycle items w →
         HasTyping (alternative w e [] D d) t T
     linearization_type : {lang w e T : _} → IsType items e T → IsData T → HasTyping (lincat lang w e) no_value T
-    linearization : {lang : _} {w : Whole} {e : _} {s : Signature} {Ts T t : _} → signature_in flat.funs w.name ≡ Some s →
-        HaveLinTypes lang s.arguments Ts → HasLinType lang s.result T → Checks items [] e (functions Ts T) t →
-        HasTyping (lin lang w e) t (functions Ts T)
-    of_lindef : {lang : _} {w : Whole} {e T t : _} → HasLinType lang w.name T → Checks items [] e (function_type str_type T) t →
-        HasTyping (lindef lang w e) t (function_type str_type T)
-    of_linref : {lang : _} {w : Whole} {e T t : _} → HasLinType lang w.name T → Checks items [] e (function_type T str_type) t →
-        HasTyping (linref lang w e) t (function_type T str_type)
+    linearization : {lang : _} {w : Whole} {e T t : _} → HasGiven lang K.Lin w.name T → Checks items [] e T t →
+        HasTyping (lin lang w e) t T
+    of_lindef : {lang : _} {w : Whole} {e T t : _} → HasGiven lang K.Lindef w.name T → Checks items [] e T t →
+        HasTyping (lindef lang w e) t T
+    of_linref : {lang : _} {w : Whole} {e T t : _} → HasGiven lang K.Linref w.name T → Checks items [] e T t →
+        HasTyping (linref lang w e) t T
 
   -- what typing gives for the judgement of that number
   abbrev pub IsTyped : ℕ → LinTerm → CType → Type 0

@@ -1,6 +1,5 @@
 -- Which patterns fit a type, and the types of their variables.
 use Rattle.std.specs.Prelude.{◌≡◌, ℕ, List, [], ◌∷◌, ◌++◌, map, flat_map, Option, Some, None, if◌then◌else◌}
-use Rattle.gft_core.specs.declared.place.Place.{Place}
 use Rattle.gft_syntax.specs.declared.ctype.CType.{CType, out-CType}
 use Rattle.gft_syntax.specs.declared.ctype.CType.TheOpen as CType-F
 use Rattle.gft_syntax.specs.declared.pattern.Pattern.{Pattern, out-Pattern}

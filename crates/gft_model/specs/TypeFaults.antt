@@ -1,6 +1,8 @@
 -- Faults of types in a judgement, each at the term or pattern that is faulty.
-use Rattle.std.specs.Prelude.{◌≡◌, ℕ, ◌+◌, ◌<◌, ◌≤◌, List, [], ◌∷◌, ◌++◌, map, flat_map, length, drop, Bool, true, false, All, ◌⊎◌, bytes_eq, Contains, Option, Some, None, ◌≢◌, slice_get, if◌then◌else◌}
-use Rattle.std.specs.List.{list_any, list_all}
+use Rattle.std.specs.Prelude.{◌≡◌, ℕ, ◌+◌, ◌<◌, ◌≤◌, List, [], ◌∷◌, ◌++◌, flat_map, length, drop, Bool, true, false, not, All, ◌⊎◌, bytes_eq, Contains, Option, Some, None, ◌≢◌, slice_get}
+use Rattle.std.specs.List.{find, list_any, list_all}
+use Rattle.std.specs.Map.{keys_of}
+use Rattle.std.specs.Option.{is_some}
 use Rattle.gft_rules.specs.declared.refusal.Refusal.{Refusal}
 use Rattle.gft_rules.specs.declared.rule.Rule.{Rule}
 use Rattle.gft_rules.specs.declared.rule.Rule.TheVariants as R
@@ -19,21 +21,19 @@ use Rattle.gft_syntax.specs.declared.term.Sort.TheVariants as Sort-V
 use Rattle.gft_syntax.specs.declared.term.Term.{Term}
 use Rattle.gft_syntax.specs.declared.term.Term.TheOpen as T
 use Rattle.gft_syntax.specs.declared.value.Param.{Param}
-use Rattle.gft_syntax.specs.Parts.{bind_place, local_names, pattern_place}
+use Rattle.gft_syntax.specs.Parts.{bind_place, is_value, local_names, pattern_place}
 use Rattle.gft_syntax.specs.Terms.{Layer, place_of}
-use Rattle.gft_model.specs.ConcreteTypes.{field_of, is_finite, count_of, values_of, IsSubtype}
-use Rattle.gft_model.specs.ConcreteTyping.{IsType, IsParameter, IsDomain, Fits, Checks, FindsAll, Suits, Stands, an_oper, passes, is_record, most_values, patterns}
-use Rattle.gft_model.specs.Grammar.{is_value}
+use Rattle.gft_model.specs.ConcreteTypes.{field_of, is_finite, count_of, values_of, record_in, table_in, function_in, IsSubtype}
+use Rattle.gft_model.specs.ConcreteTyping.{IsType, IsParameter, IsDomain, Fits, Checks, FindsAll, Suits, Stands, an_oper, passes, is_covered, most_values, patterns}
+use Rattle.gft_model.specs.Modules.{placed_names}
 use Rattle.gft_model.specs.Items.{bare_parameter}
-use Rattle.gft_model.specs.JudgementTyping.{IsSort}
-use Rattle.gft_model.specs.Matching.{match_of, is_matched, parameter}
+use Rattle.gft_model.specs.JudgementTyping.{items, IsSort}
 use Rattle.gft_model.specs.PatternTyping.{Scope, PatternFits, pattern_form}
 use Rattle.gft_model.specs.Refusals.{Moment, refusal}
 use Rattle.gft_model.specs.Resting.{Rests, answers_to}
-use Rattle.gft_model.specs.TypeForms.{form, str_type, number_type, sort_type, table_type, functions}
+use Rattle.gft_model.specs.TypeForms.{form, str_type, number_type, table_type, functions}
 use Rattle.gft_model.specs.TypeTexts.{type_text, param_text}
-use Rattle.gft_model.specs.TypingSites.{Mode, found, given, given_own, as_type, over, unasked, Role, data_wanted, finite_wanted, selected, a_term, a_pattern, Site, term_mode, fields_in, table_in, function_in, value_mode, labelled, Binds, items, FoundFor, HasOverload, IsOverloaded, IsConstructorOf, StandsIn, judgement_sites}
-use Rattle.gft_model.specs.Modules.{placed_names}
+use Rattle.gft_model.specs.TypingSites.{Mode, found, given, as_type, over, Role, data_wanted, finite_wanted, to_fit, selected, applied, a_term, a_pattern, Site, term_mode, value_mode, Binds, FoundFor, HasOverload, IsConstructorOf, StandsIn, judgement_sites}
 
 -- forms that need a type to be given: a lambda, \\, a table without its type, variants {}
 abbrev pub needs_type : Layer → Bool
@@ -66,40 +66,17 @@ may_be_type (T.TabType a b place) = true
 may_be_type (T.Pair a b place) = true
 may_be_type d = false
 
--- it is selected from directly
-abbrev pub is_selected : Role → Bool
-is_selected selected = true
-is_selected r = false
-
--- the labels of a record or a tuple, and whether a form is one
-abbrev pub record_labels : Layer → Option (List (List ℕ))
-record_labels (T.Fields ls place) = if list_all is_value ls then Some (flat_map local_names ls) else None
-record_labels d = None
-
 -- the first of the labels that are wanted which is not there
 abbrev pub first_absent : List (List ℕ) → List (List ℕ) → Option (List ℕ)
-first_absent there [] = None
-first_absent there (l ∷ ls) = if list_any (bytes_eq l) there then first_absent there ls else Some l
+first_absent there wanted = find (λ l. not (list_any (bytes_eq l) there)) wanted
 
-abbrev pub labels : {A : Type 0} → List (List ℕ × A) → List (List ℕ)
-labels fs = map (λ f. f.0) fs
-
--- the labels of a pattern, and patterns of texts
-abbrev pub pattern_labels : P.Pattern-F Pattern → Option (List (List ℕ))
-pattern_labels (P.Fields fs place) = Some (labels (labelled fs))
-pattern_labels d = None
-
+-- patterns of texts
 abbrev pub is_text_pattern : P.Pattern-F Pattern → Bool
 is_text_pattern (P.Text t place) = true
 is_text_pattern (P.One place) = true
 is_text_pattern (P.Seq p q place) = true
 is_text_pattern (P.Star p place) = true
 is_text_pattern d = false
-
--- the definition of an oper that has no arguments and no written type
-abbrev pub unwritten : Judgement → Option Term
-unwritten (J.Oper ns [] (D.Term e)) = Some e
-unwritten j = None
 
 -- the rule that a judgement breaks which needs itself
 abbrev pub cycle_rule : Judgement → Option Rule
@@ -109,55 +86,37 @@ cycle_rule (J.OperTyped ns t d) = Some R.OperCycle
 cycle_rule (J.Oper ns xs d) = Some R.OperCycle
 cycle_rule j = None
 
--- the type that a term is given
-pub data Given : Mode → CType → Type 0 where
-  a_type : {A : _} → Given (given A) A
-  its_own : {A U : _} → Given (given_own A U) A
-  a_sort : {S : _} → Given (as_type S) S
-
 -- a table with its type written
 pub data WritesDomain (e : Term) : Term → Type 0 where
   with_branches : {t cs p : _} → form e ≡ T.TableOf (Some t) cs p → WritesDomain e t
   with_items : {t es p : _} → form e ≡ T.TableList t es p → WritesDomain e t
 
--- the patterns of the branches of a table or a case
-pub data HasBranches (e : Term) : List Pattern → Type 0 where
-  of_table : {t cs p : _} → form e ≡ T.TableOf t cs p → HasBranches e (patterns cs)
-  of_case : {b cs p : _} → form e ≡ T.CaseOf b cs p → HasBranches e (patterns cs)
-
--- the first value of the type that the form leaves out
-abbrev pub is_covered : List Pattern → Param → Bool
-is_covered ps v = list_any (λ p. is_matched (match_of p (parameter v))) ps
-
-pub data LeavesOut (e : Term) (A : CType) : Param → Type 0 where
-  no_branch_for : {ps : _} (before after : List Param) {v : _} → HasBranches e ps → values_of A ≡ before ++ v ∷ after →
-      list_all (is_covered ps) before ≡ true → is_covered ps v ≡ false → LeavesOut e A v
-  no_item_for : {t es p v : _} → form e ≡ T.TableList t es p → slice_get (values_of A) (length es) ≡ Some v → LeavesOut e A v
+-- the first of the values that the branches or items of a form leave out
+abbrev pub left_out : Layer → List Param → Option Param
+left_out (T.TableOf t cs place) vs = find (λ v. not (is_covered (patterns cs) v)) vs
+left_out (T.CaseOf e cs place) vs = find (λ v. not (is_covered (patterns cs) v)) vs
+left_out (T.TableList t es place) vs = slice_get vs (length es)
+left_out d vs = None
 
 module _ (flat : Flat) where
-  -- a name where a type must stand that no type was given to
-  abbrev pub IsUndefinedType : Whole → Type 0
-  IsUndefinedType v = Contains (items flat) (bare_parameter v)
-      ⊎ ((k : ℕ) × (t : Term) × (S : CType) × Stands (items flat) v (an_oper k (Some t) None) × IsType (items flat) t S
-      × IsSort S)
-
   -- what is broken at a term that must be a type of the sort
   pub data BreaksSort (Γ : Scope) (e : Term) (S : CType) : Rule → List (List ℕ) → Type 0 where
-    undefined_type : {v : Whole} {p : _} → form e ≡ T.Var (WholeName v) p → IsUndefinedType v →
-        BreaksSort Γ e S R.Unknown (v.name ∷ [])
+    undefined_type : {w : Whole} {k p t A : _} → form e ≡ T.Var (WholeName w) p →
+        Stands (items flat) w (an_oper k (Some t) None) → IsType (items flat) t A → IsSort A →
+        BreaksSort Γ e S R.Unknown (w.name ∷ [])
     form_of_no_type : {t : _} → Checks (items flat) Γ e S t → may_be_type (form e) ≡ false → BreaksSort Γ e S R.NoType []
-    too_many_values : {A v p : _} → form e ≡ T.Var (WholeName v) p → IsParameter (items flat) v A → most_values < count_of A →
+    too_many_values : {A w p : _} → form e ≡ T.Var (WholeName w) p → IsParameter (items flat) w A → most_values < count_of A →
         BreaksSort Γ e S R.ParamTooLarge (type_text A ∷ [])
 
   -- what is broken at a term before its parts are looked at
   pub data BreaksEarly (e : Term) : Mode → Rule → List (List ℕ) → Type 0 where
     no_type_given : needs_type (form e) ≡ true → BreaksEarly e found R.NoType []
-    lambda_is_no_function : {Γ Δ b m x xs ys p F A : _} → form e ≡ T.Fun xs b p → Given m F →
+    lambda_is_no_function : {Γ Δ b m x xs ys p F A : _} → form e ≡ T.Fun xs b p → term_mode m ≡ given F →
         Binds function_in Γ xs F Δ (x ∷ ys) A → function_in (out-CType A) ≡ None →
         BreaksEarly e m R.NotFunction (type_text A ∷ [])
-    lambda_is_no_table : {Γ Δ b m x xs ys p F A : _} → form e ≡ T.TabFun xs b p → Given m F → Binds table_in Γ xs F Δ (x ∷ ys) A →
-        table_in (out-CType A) ≡ None → BreaksEarly e m R.NotTable (type_text A ∷ [])
-    table_is_no_table : {m cs p F : _} → form e ≡ T.TableOf None cs p → Given m F → table_in (out-CType F) ≡ None →
+    lambda_is_no_table : {Γ Δ b m x xs ys p F A : _} → form e ≡ T.TabFun xs b p → term_mode m ≡ given F →
+        Binds table_in Γ xs F Δ (x ∷ ys) A → table_in (out-CType A) ≡ None → BreaksEarly e m R.NotTable (type_text A ∷ [])
+    table_is_no_table : {m cs p F : _} → form e ≡ T.TableOf None cs p → term_mode m ≡ given F → table_in (out-CType F) ≡ None →
         BreaksEarly e m R.NotTable (type_text F ∷ [])
 
   module _ (Γ : Scope) (e : Term) (m : Mode) (r : Role) where
@@ -167,64 +126,61 @@ module _ (flat : Flat) where
       has_given : {A : _} → m ≡ given A → Has A
       is_written : {S A : _} → m ≡ as_type S → IsType (items flat) e A → Has A
 
-    -- what a table or case is over, and whether it may be over texts
-    pub data IsOver : CType → Bool → Type 0 where
-      over_written : {t A : _} → WritesDomain e t → IsType (items flat) t A → IsOver A (is_selected r)
-      over_given : {cs p F A V : _} → form e ≡ T.TableOf None cs p → Given m F → table_in (out-CType F) ≡ Some (A, V) →
-          IsOver A false
-      over_selector : {cs p A : _} → form e ≡ T.TableOf None cs p → m ≡ over A → IsOver A true
-      over_case : {b cs p A : _} → form e ≡ T.CaseOf b cs p → FoundFor flat b Γ A → IsOver A true
+    -- what a table, a table type or a case is over
+    pub data IsOver : CType → Type 0 where
+      over_written : {t A : _} → WritesDomain e t → IsType (items flat) t A → IsOver A
+      over_given : {cs p F A V : _} → form e ≡ T.TableOf None cs p → term_mode m ≡ given F →
+          table_in (out-CType F) ≡ Some (A, V) → IsOver A
+      over_selector : {cs p A : _} → form e ≡ T.TableOf None cs p → m ≡ over A → IsOver A
+      over_case : {b cs p A : _} → form e ≡ T.CaseOf b cs p → FoundFor flat b Γ A → IsOver A
+      over_type : {a b p A : _} → form e ≡ T.TabType a b p → IsType (items flat) a A → IsOver A
+
+    -- branches that may be over texts: those of a case, and of a table that is selected from directly
+    pub data MayBeOverTexts : Type 0 where
+      in_case : {b cs p : _} → form e ≡ T.CaseOf b cs p → MayBeOverTexts
+      in_selection : r ≡ selected → MayBeOverTexts
 
     -- what is broken at a term once its parts were looked at
     pub data BreaksTerm : Rule → List (List ℕ) → Type 0 where
-      undefined_parameter : {v : Whole} {p : _} → form e ≡ T.Var (WholeName v) p → Contains (items flat) (bare_parameter v) →
-          BreaksTerm R.Unknown (v.name ∷ [])
+      undefined_parameter : {w : Whole} {p : _} → form e ≡ T.Var (WholeName w) p → Contains (items flat) (bare_parameter w) →
+          BreaksTerm R.Unknown (w.name ∷ [])
       no_first_branch : empty_mode (form e) (term_mode m) ≡ Some found → BreaksTerm R.NoType []
-      found_does_not_fit : {A B : _} → Given m A → passes (form e) (out-CType A) ≡ false → FoundFor flat e Γ B →
+      found_does_not_fit : {A B : _} → term_mode m ≡ given A → passes (form e) (out-CType A) ≡ false → FoundFor flat e Γ B →
           ((t : LinTerm) → ¬ (Checks (items flat) Γ e A t)) → BreaksTerm R.Mismatch (type_text A ∷ type_text B ∷ [])
-      own_type_does_not_fit : {A U t : _} → m ≡ given_own A U → Checks (items flat) Γ e A t →
+      own_type_does_not_fit : {A U t : _} → r ≡ to_fit U → m ≡ given A → Checks (items flat) Γ e A t →
           ((u v : LinTerm) → ¬ (Fits A U u v)) → BreaksTerm R.Mismatch (type_text U ∷ type_text A ∷ [])
-      table_over_another : {t F A B V : _} → Given m F → table_in (out-CType F) ≡ Some (A, V) → WritesDomain e t →
+      table_over_another : {t F A B V : _} → term_mode m ≡ given F → table_in (out-CType F) ≡ Some (A, V) → WritesDomain e t →
           IsType (items flat) t B → B ≢ A → BreaksTerm R.Mismatch (type_text F ∷ type_text (table_type B V) ∷ [])
-      table_where_none_is_given : {t F B : _} → Given m F → table_in (out-CType F) ≡ None → WritesDomain e t →
-          FoundFor flat e Γ B → BreaksTerm R.Mismatch (type_text F ∷ type_text B ∷ [])
-      type_for_record : {ls p A : _} → Given m A → is_record (out-CType A) ≡ true → form e ≡ T.Fields ls p →
-          list_all is_value ls ≡ false → FoundFor flat e Γ sort_type →
-          BreaksTerm R.Mismatch (type_text A ∷ type_text sort_type ∷ [])
-      projects_no_record : {a x p A : _} → form e ≡ T.Proj a x p → FoundFor flat a Γ A → is_record (out-CType A) ≡ false →
+      projects_no_record : {a x p A : _} → form e ≡ T.Proj a x p → FoundFor flat a Γ A → record_in (out-CType A) ≡ None →
           BreaksTerm R.NotRecord (type_text A ∷ [])
-      projects_no_field : {a x p A : _} → form e ≡ T.Proj a x p → FoundFor flat a Γ A → is_record (out-CType A) ≡ true →
-          field_of x (fields_in (out-CType A)) ≡ None → BreaksTerm R.NoField (x ∷ [])
+      projects_no_field : {a x p A gs : _} → form e ≡ T.Proj a x p → FoundFor flat a Γ A → record_in (out-CType A) ≡ Some gs →
+          field_of x gs ≡ None → BreaksTerm R.NoField (x ∷ [])
       extends_no_record : {a b p A B C : _} → form e ≡ T.Extend a b p → FoundFor flat a Γ A → FoundFor flat b Γ B →
-          is_record (out-CType C) ≡ false → (C ≡ A) ⊎ ((C ≡ B) × (is_record (out-CType A) ≡ true)) →
-          BreaksTerm R.NotRecord (type_text C ∷ [])
-      record_lacks : {A ls x : _} → Given m A → record_labels (form e) ≡ Some ls →
-          first_absent ls (labels (fields_in (out-CType A))) ≡ Some x → BreaksTerm R.NoField (x ∷ [])
+          find (λ D. not (is_some (record_in (out-CType D)))) (A ∷ B ∷ []) ≡ Some C → BreaksTerm R.NotRecord (type_text C ∷ [])
+      record_lacks : {ls p A gs x : _} → form e ≡ T.Fields ls p → list_all is_value ls ≡ true → term_mode m ≡ given A →
+          record_in (out-CType A) ≡ Some gs → first_absent (flat_map local_names ls) (keys_of gs) ≡ Some x →
+          BreaksTerm R.NoField (x ∷ [])
       selects_from_no_table : {a b p A : _} → form e ≡ T.Select a b p → FoundFor flat a Γ A → table_in (out-CType A) ≡ None →
           BreaksTerm R.NotTable (type_text A ∷ [])
-      applies_no_function : {f a p A : _} → m ≢ unasked → form e ≡ T.App f a p → ¬ (IsOverloaded flat f) → FoundFor flat f Γ A →
-          function_in (out-CType A) ≡ None → BreaksTerm R.NotFunction (type_text A ∷ [])
+      applies_no_function : {f a p A : _} → form e ≡ T.App f a p → ((w : Whole) (es : List Term) → ¬ (HasOverload flat f w es)) →
+          FoundFor flat f Γ A → function_in (out-CType A) ≡ None → BreaksTerm R.NotFunction (type_text A ∷ [])
       function_for_data : {F A B : _} → (r ≡ data_wanted) ⊎ (r ≡ finite_wanted) → Has F →
           function_in (out-CType F) ≡ Some (A, B) → BreaksTerm R.FunctionHere []
       argument_not_finite : {A : _} → r ≡ finite_wanted → IsType (items flat) e A → is_finite A ≡ false →
           BreaksTerm R.NotFinite (type_text A ∷ [])
-      table_type_over : {a b p A : _} → form e ≡ T.TabType a b p → IsType (items flat) a A → is_finite A ≡ false →
-          BreaksTerm R.NotFinite (type_text A ∷ [])
-      table_over : {A text : _} → IsOver A text → is_finite A ≡ false → ¬ ((text ≡ true) × (A ≡ str_type)) →
+      over_no_finite : {A : _} → IsOver A → is_finite A ≡ false → ¬ ((A ≡ str_type) × MayBeOverTexts) →
           BreaksTerm R.NotFinite (type_text A ∷ [])
       too_many_numbers : {f a n p q : _} → form e ≡ T.App f a p → is_ints (form f) ≡ true → form a ≡ T.Num n q →
           most_values < n + 1 → BreaksTerm R.ParamTooLarge (type_text (number_type n) ∷ [])
-      table_type_too_large : {a b p A : _} → form e ≡ T.TabType a b p → IsType (items flat) a A → is_finite A ≡ true →
-          most_values < count_of A → BreaksTerm R.ParamTooLarge (type_text A ∷ [])
-      table_too_large : {A text : _} → IsOver A text → is_finite A ≡ true → most_values < count_of A →
+      over_too_many : {A : _} → IsOver A → is_finite A ≡ true → most_values < count_of A →
           BreaksTerm R.ParamTooLarge (type_text A ∷ [])
-      value_left_out : {A text v : _} → IsOver A text → IsDomain A → LeavesOut e A v →
+      value_left_out : {A v : _} → IsOver A → IsDomain A → left_out (form e) (values_of A) ≡ Some v →
           BreaksTerm R.NotExhaustive (param_text v ∷ [])
-      no_alternative : {v : Whole} {es As us : _} → m ≢ unasked → HasOverload flat e v es → FindsAll (items flat) Γ es As us →
-          ((k : ℕ) (B : CType) (u : LinTerm) → ¬ (Suits (items flat) v As us k B u)) → BreaksTerm R.NoOverload (v.name ∷ [])
-      many_alternatives : {v : Whole} {es As us i k B C t u : _} → m ≢ unasked → HasOverload flat e v es →
-          FindsAll (items flat) Γ es As us → Suits (items flat) v As us i B t → Suits (items flat) v As us k C u → i ≢ k →
-          BreaksTerm R.ManyOverloads (v.name ∷ [])
+      no_alternative : {w : Whole} {es As us : _} → r ≢ applied → HasOverload flat e w es → FindsAll (items flat) Γ es As us →
+          ((k : ℕ) (B : CType) (u : LinTerm) → ¬ (Suits (items flat) w As us k B u)) → BreaksTerm R.NoOverload (w.name ∷ [])
+      many_alternatives : {w : Whole} {es As us i k B C t u : _} → r ≢ applied → HasOverload flat e w es →
+          FindsAll (items flat) Γ es As us → Suits (items flat) w As us i B t → Suits (items flat) w As us k C u → i ≢ k →
+          BreaksTerm R.ManyOverloads (w.name ∷ [])
 
   -- the type of a pattern that has one of its own
   pub data PatternHas (p : Pattern) : CType → Type 0 where
@@ -237,10 +193,10 @@ module _ (flat : Flat) where
   pub data BreaksPatternEarly (p : Pattern) (A : CType) : Rule → List (List ℕ) → Type 0 where
     applied_too_far : {m c ps q As B : _} → pattern_form p ≡ P.Con m (WholeName c) ps q → IsConstructorOf flat c As B →
         length As < length ps → BreaksPatternEarly p A R.NotFunction (type_text B ∷ [])
-    pattern_of_no_record : {ls : _} → pattern_labels (pattern_form p) ≡ Some ls → is_record (out-CType A) ≡ false →
+    pattern_of_no_record : {fs q : _} → pattern_form p ≡ P.Fields fs q → record_in (out-CType A) ≡ None →
         BreaksPatternEarly p A R.NotRecord (type_text A ∷ [])
-    pattern_of_no_field : {ls x : _} → pattern_labels (pattern_form p) ≡ Some ls → is_record (out-CType A) ≡ true →
-        first_absent (labels (fields_in (out-CType A))) ls ≡ Some x → BreaksPatternEarly p A R.NoField (x ∷ [])
+    pattern_of_no_field : {fs q gs x : _} → pattern_form p ≡ P.Fields fs q → record_in (out-CType A) ≡ Some gs →
+        first_absent (keys_of gs) (flat_map (λ f. f.labels) fs) ≡ Some x → BreaksPatternEarly p A R.NoField (x ∷ [])
 
   pub data BreaksPattern (p : Pattern) (A : CType) : Rule → List (List ℕ) → Type 0 where
     pattern_does_not_fit : {B : _} → PatternHas p B → ¬ (IsSubtype B A) →
@@ -271,5 +227,5 @@ module _ (flat : Flat) where
     overload_with_arguments : {ns x xs ds : _} → j ≡ J.Oper ns (x ∷ xs) (D.Overload ds) →
         BreaksTypes lang w j (0 ∷ 1 ∷ []) (refusal R.NoType (bind_place x) [])
     in_sites : {at r : _} → BreaksSites (judgement_sites lang w.name j) at r → BreaksTypes lang w j at r
-    at_definition : {e S rule names : _} → unwritten j ≡ Some e → FoundFor flat e [] S → IsSort S → BreaksSort [] e S rule names →
-        BreaksTypes lang w j (1 ∷ []) (refusal rule (place_of e) names)
+    at_definition : {ns e S rule names : _} → j ≡ J.Oper ns [] (D.Term e) → FoundFor flat e [] S → IsSort S →
+        BreaksSort [] e S rule names → BreaksTypes lang w j (1 ∷ []) (refusal rule (place_of e) names)

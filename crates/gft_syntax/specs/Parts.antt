@@ -38,6 +38,12 @@ local_names (Value xs e) = xs
 local_names (Label xs t) = xs
 local_names (TypedValue xs t e) = xs
 
+-- a local or field with =
+abbrev pub is_value : {A : Type 0} → Local A → Bool
+is_value (Value xs e) = true
+is_value (Label xs t) = false
+is_value (TypedValue xs t e) = true
+
 -- the place of a pattern's first token
 abbrev pub pattern_place : {A : Type 0} → P.Pattern-F A → Place
 pattern_place (P.Or p q place) = place
