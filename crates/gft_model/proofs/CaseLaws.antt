@@ -14,10 +14,11 @@ use Rattle.gft_syntax.specs.declared.value.PathStep.TheVariants.{Label, Cell}
 use Rattle.gft_syntax.specs.declared.value.Value.{Value, roll-Value}
 use Rattle.gft_syntax.specs.declared.value.Value.TheOpen as V
 use Rattle.gft_syntax.specs.declared.value.Value.TheFolds.{ind-Value, map-Value, fold-Value}
-use Rattle.gft_model.specs.ConcreteTypes.{upto, choices, field_choices, values_of, LeafAt, below, leaf_values, cells_of_type, cases_of}
-use Rattle.gft_model.specs.Productions.{case_values_step, case_values, case_of}
-use Rattle.gft_model.specs.TreeValues.{Numbered, number_step, number_all, closed_parts}
+use Rattle.gft_model.specs.ConcreteTypes.{upto, choices, field_choices, values_of, Leaf, below, leaf_values, cells_of_type, cases_of}
+use Rattle.gft_model.specs.Productions.{case_values}
+use Rattle.gft_model.specs.TreeValues.{case_values_step, Numbered, number_step, number_all, closed_parts}
 use Rattle.gft_model.specs.ValueForms.{con_param, number_param, param_value, record_value, table_value}
+use Rattle.gft_model.specs.Values.{case_of}
 use Rattle.gft_model.proofs.Computing.{cells-roll, case_values-roll, case_of-roll, numbered_value-roll}
 
 -- each of the first followed by each of the second, the first counting most
@@ -50,7 +51,7 @@ choices-append (x ∷ xs) ys =
     ap (λ (cs : List (List _)). flat_map (λ a. map (λ r. a ∷ r) cs) x) (choices-append xs ys) ∙ all-before x (choices xs) (choices ys)
 
 -- a step on the way to leaves changes no value of theirs
-leaves-below : (s : PathStep) (cs : List LeafAt) → flat_map leaf_values (map (below s) cs) ≡ flat_map leaf_values cs
+leaves-below : (s : PathStep) (cs : List Leaf) → flat_map leaf_values (map (below s) cs) ≡ flat_map leaf_values cs
 leaves-below s [] = refl
 leaves-below s (c ∷ cs) = ap (λ vs. leaf_values c ++ vs) (leaves-below s cs)
 
@@ -98,7 +99,7 @@ all-fields l (v ∷ vs) gss =
     ∙ ap (λ pss. map (λ ps. case_of v ++ ps) (map joined gss) ++ pss) (all-fields l vs gss)
 
 -- the parameters of a field, then those of the fields after it
-leaves-first : (s : PathStep) (cs ds : List LeafAt) →
+leaves-first : (s : PathStep) (cs ds : List Leaf) →
     flat_map leaf_values cs ++ flat_map leaf_values ds ≡ flat_map leaf_values (map (below s) cs ++ ds)
 leaves-first s cs ds =
     ap (λ vs. vs ++ flat_map leaf_values ds) (sym (leaves-below s cs)) ∙ sym (flat_map-append leaf_values (map (below s) cs) ds)
@@ -107,9 +108,9 @@ abbrev field_values : List (List ℕ × Known) → List (List ℕ × List Value)
 field_values ys =
     map (λ (f : List ℕ × (CType × List Value)). (f.0, f.1.1)) (map (λ (f : List ℕ × CType). (f.0, (f.1, values f.1))) (map (λ (f : List ℕ × Known). (f.0, f.1.0)) ys))
 
-abbrev field_cells : List (List ℕ × Known) → List LeafAt
+abbrev field_cells : List (List ℕ × Known) → List Leaf
 field_cells ys =
-    flat_map (λ (f : List ℕ × (CType × List LeafAt)). map (below (Label f.0)) f.1.1) (map (λ (f : List ℕ × CType). (f.0, (f.1, cells_of_type f.1))) (map (λ (f : List ℕ × Known). (f.0, f.1.0)) ys))
+    flat_map (λ (f : List ℕ × (CType × List Leaf)). map (below (Label f.0)) f.1.1) (map (λ (f : List ℕ × CType). (f.0, (f.1, cells_of_type f.1))) (map (λ (f : List ℕ × Known). (f.0, f.1.0)) ys))
 
 fields-in-order : (ys : List (List ℕ × Known)) → map joined (field_choices (field_values ys)) ≡ choices (flat_map leaf_values (field_cells ys))
 fields-in-order [] = refl
@@ -135,7 +136,7 @@ all-entries v vs (x ∷ xs) uss =
     ∙ ap (λ pss. pss ++ map joined (map (λ us. zip (v ∷ vs) us) (flat_map (λ x. map (λ us. x ∷ us) uss) xs))) (one-entry v vs x uss)
     ∙ ap (λ pss. map (λ ps. case_of x ++ ps) (map joined (map (λ us. zip vs us) uss)) ++ pss) (all-entries v vs xs uss)
 
-abbrev entry_cells : CType → List Param → List LeafAt
+abbrev entry_cells : CType → List Param → List Leaf
 entry_cells T vs = flat_map (λ (v : Param). map (below (Cell v)) (cells_of_type T)) vs
 
 tables-in-order : (T : CType) → InOrder T → (vs : List Param) →

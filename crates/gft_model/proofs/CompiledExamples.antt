@@ -13,7 +13,7 @@ use Rattle.gft_syntax.specs.declared.term.Term.TheFolds.{fold-roll-Term}
 use Rattle.gft_syntax.specs.declared.value.Param.TheViews.{out-roll-Param}
 use Rattle.gft_syntax.specs.declared.value.Value.TheViews.{out-roll-Value}
 use Rattle.gft_model.specs.Compiled.{Compiles, infos_from, nonterminal, productions_from, defs_in, refs_in}
-use Rattle.gft_model.proofs.Computing.{results-roll, same-roll, default-roll, cells-roll, numbered_value-roll, string_leaves-roll, first_string-roll, case_values-roll, case_of-roll}
+use Rattle.gft_model.proofs.Computing.{results-roll, same-roll, case_values-roll, cells-roll, numbered_value-roll, string_leaves-roll, first_string-roll, case_of-roll}
 use Rattle.gft_model.proofs.Grammars as compiled
 use Rattle.gft_model.specs.Runs.{IsKept, MayBeHole, AreRuns, none}
 use Rattle.gft_model.proofs.GrammarExamples.{concrete_fits}
@@ -31,7 +31,7 @@ pub productions_of_twice : productions_from twice (codes "TwiceEng") compiled.tw
 productions_of_twice = simp (fold-roll-Term, cells-roll, case_values-roll, case_of-roll, results-roll, out-roll-Value, numbered_value-roll, string_leaves-roll)
 
 pub defs_of_twice : defs_in twice (codes "TwiceEng") compiled.twice.cats ≡ compiled.twice_eng.defs
-defs_of_twice = simp (cells-roll, default-roll, case_of-roll, string_leaves-roll)
+defs_of_twice = simp (cells-roll, case_values-roll, case_of-roll, string_leaves-roll)
 
 pub refs_of_twice : refs_in twice (codes "TwiceEng") compiled.twice.cats ≡ compiled.twice_eng.refs
 refs_of_twice = simp (cells-roll, case_values-roll, case_of-roll, numbered_value-roll, first_string-roll, string_leaves-roll)
@@ -75,7 +75,7 @@ productions_of_t : productions_from t (codes "TE") abs.cats 0 abs.funs ≡ eng.p
 productions_of_t = simp (fold-roll-Term, cells-roll, case_of-roll, results-roll, string_leaves-roll)
 
 defs_of_t : defs_in t (codes "TE") abs.cats ≡ eng.defs
-defs_of_t = simp (cells-roll, default-roll, case_of-roll, string_leaves-roll)
+defs_of_t = simp (cells-roll, case_values-roll, case_of-roll, string_leaves-roll)
 
 refs_of_t : refs_in t (codes "TE") abs.cats ≡ eng.refs
 refs_of_t = simp (cells-roll, case_values-roll, case_of-roll, numbered_value-roll, first_string-roll, string_leaves-roll)

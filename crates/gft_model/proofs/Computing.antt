@@ -1,5 +1,5 @@
 -- What the definitions compute at one layer, so that worked examples can be computed.
-use Rattle.std.proofs.Common.{◌≡◌, ap, ℕ, List, Option, Bool}
+use Rattle.std.proofs.Common.{◌≡◌, ap, ℕ, List, [], ◌∷◌, Bool}
 use Rattle.gft_core.specs.declared.tree.Tree.{Tree, roll-Tree}
 use Rattle.gft_core.specs.declared.tree.Tree.TheOpen.{Tree-F}
 use Rattle.gft_core.specs.declared.tree.Tree.TheFolds.{fold-roll-Tree, map-Tree}
@@ -22,17 +22,16 @@ use Rattle.gft_syntax.specs.declared.value.Param.TheFolds.{fold-roll-Param, map-
 use Rattle.gft_syntax.specs.declared.value.Value.{Value, roll-Value}
 use Rattle.gft_syntax.specs.declared.value.Value.TheOpen.{Value-F}
 use Rattle.gft_syntax.specs.declared.value.Value.TheFolds.{fold-Value, fold-roll-Value, map-Value}
-use Rattle.gft_model.specs.ConcreteTypes.{LeafAt, cells_of_type, leaves_step}
+use Rattle.gft_model.specs.ConcreteTypes.{Leaf, cells_of_type, leaves_step}
 use Rattle.gft_model.specs.Matching.{Subject, Match, match_of, match_step}
 use Rattle.gft_model.specs.Outcomes.{Results, Environment, results_of, step}
 use Rattle.gft_core.specs.declared.symbol.Sym.{Sym}
 use Rattle.gft_syntax.specs.declared.pattern.Pattern.TheViews.{out-roll-Pattern}
 use Rattle.gft_model.specs.PatternTyping.{pattern_form, plain_pattern}
-use Rattle.gft_model.specs.Productions.{case_values_step, case_of, parameters_step}
-use Rattle.gft_model.specs.TreeStrings.{first_string, first_string_step}
-use Rattle.gft_model.specs.TreeValues.{default_value, default_step, string_leaves, leaves_of_step, Numbered, number_step, AtPosition, value_of_layer, bracketed_values}
+use Rattle.gft_model.specs.TreeStrings.{string_step}
+use Rattle.gft_model.specs.TreeValues.{case_values_step, Numbered, number_step, AtPosition, value_of_layer, bracketed_values}
 use Rattle.gft_model.specs.TypeForms.{form, plain_form}
-use Rattle.gft_model.specs.Values.{same_param, same_step, cut_value, cut_step}
+use Rattle.gft_model.specs.Values.{leaves_step as value_leaves, string_leaves, case_of, same_param, same_step, cut_value, cut_step}
 
 pub form-roll : (d : Layer) → form (roll-Term d) ≡ plain_form d
 unfolding form
@@ -59,8 +58,8 @@ pub cut-roll : (d : CType-F CType) (v : Value) →
 cut-roll d v = ap (λ (f : Value → Value). f v) (fold-roll-CType (Value → Value) cut_step d)
 
 pub cells-roll : (d : CType-F CType) →
-    cells_of_type (roll-CType d) ≡ leaves_step (map-CType CType (CType × List LeafAt) (λ T. (T, cells_of_type T)) d)
-cells-roll d = para-roll-CType (List LeafAt) leaves_step d
+    cells_of_type (roll-CType d) ≡ leaves_step (map-CType CType (CType × List Leaf) (λ T. (T, cells_of_type T)) d)
+cells-roll d = para-roll-CType (List Leaf) leaves_step d
 
 pub tree-roll : (flat : Flat) (lang : List ℕ) (d : Tree-F Tree) (p C : List ℕ) →
     bracketed_values flat lang (roll-Tree d) p C ≡ value_of_layer flat lang (map-Tree Tree AtPosition (bracketed_values flat lang) d) p C
@@ -79,20 +78,16 @@ pub numbered_next-roll : (i : ℕ) (d : Value-F Value) (l : ℕ) →
 numbered_next-roll i d l = ap (λ (r : Value × ℕ). r.1) (numbered-roll i d l)
 
 pub first_string-roll : (d : Value-F Value) →
-    first_string (roll-Value d) ≡ first_string_step (map-Value Value (Option (List Sym)) first_string d)
-first_string-roll d = fold-roll-Value (Option (List Sym)) first_string_step d
+    fold-Value (List (List Sym)) string_step (roll-Value d) ≡ string_step (map-Value Value (List (List Sym)) (fold-Value (List (List Sym)) string_step) d)
+first_string-roll d = fold-roll-Value (List (List Sym)) string_step d
 
 pub string_leaves-roll : (d : Value-F Value) →
-    string_leaves (roll-Value d) ≡ leaves_of_step (map-Value Value (List (List Sym)) string_leaves d)
-string_leaves-roll d = fold-roll-Value (List (List Sym)) leaves_of_step d
-
-pub default-roll : (d : CType-F CType) →
-    default_value (roll-CType d) ≡ default_step (map-CType CType (CType × Value) (λ T. (T, default_value T)) d)
-default-roll d = para-roll-CType Value default_step d
+    string_leaves (roll-Value d) ≡ value_leaves (λ ss. ss ∷ []) (λ v. []) (map-Value Value (List (List Sym)) string_leaves d)
+string_leaves-roll d = fold-roll-Value (List (List Sym)) (value_leaves (λ ss. ss ∷ []) (λ v. [])) d
 
 pub case_values-roll : (d : CType-F CType) →
     para-CType (List Value) case_values_step (roll-CType d) ≡ case_values_step (map-CType CType (CType × List Value) (λ T. (T, para-CType (List Value) case_values_step T)) d)
 case_values-roll d = para-roll-CType (List Value) case_values_step d
 
-pub case_of-roll : (d : Value-F Value) → case_of (roll-Value d) ≡ parameters_step (map-Value Value (List Param) case_of d)
-case_of-roll d = fold-roll-Value (List Param) parameters_step d
+pub case_of-roll : (d : Value-F Value) → case_of (roll-Value d) ≡ value_leaves (λ ss. []) (λ v. v ∷ []) (map-Value Value (List Param) case_of d)
+case_of-roll d = fold-roll-Value (List Param) (value_leaves (λ ss. []) (λ v. v ∷ [])) d

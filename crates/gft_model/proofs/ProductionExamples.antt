@@ -24,7 +24,7 @@ use Rattle.gft_syntax.specs.declared.value.Value.TheFolds.{fold-roll-Value}
 use Rattle.gft_model.specs.Productions.{CaseProduction, productions_of, defs_of, refs_of}
 use Rattle.gft_model.specs.TypeForms.{no_value}
 use Rattle.gft_model.specs.ValueForms.{con_param}
-use Rattle.gft_model.proofs.Computing.{results-roll, match-roll, default-roll, numbered_value-roll, numbered_next-roll, string_leaves-roll, first_string-roll, case_values-roll, case_of-roll}
+use Rattle.gft_model.proofs.Computing.{results-roll, match-roll, case_values-roll, numbered_value-roll, numbered_next-roll, string_leaves-roll, first_string-roll, case_of-roll}
 use Rattle.gft_model.proofs.TermTreeExamples.{nowhere, whole, named, nothing, entry, category, made, word, field_s, a_lincat, a_lin, twice}
 
 abbrev pub production : List (List Param) → List Param → List (List Sym) → CaseProduction
@@ -91,7 +91,7 @@ of_n = simp (fold-roll-Term, fold-roll-Value, results-roll)
 
 -- the def of K is of its first case, and it has a ref for each case
 pub def_of_k : defs_of gend (codes "GendEng") (codes "K") ≡ production [] (gender (codes "Ma") ∷ []) ((Arg 0 0 ∷ []) ∷ []) ∷ []
-def_of_k = simp (default-roll, case_of-roll, string_leaves-roll)
+def_of_k = simp (case_values-roll, case_of-roll, string_leaves-roll)
 
 pub refs_of_k : refs_of gend (codes "GendEng") (codes "K")
     ≡ production ((gender (codes "Ma") ∷ []) ∷ []) [] ((Arg 0 0 ∷ []) ∷ []) ∷ production ((gender (codes "Fe") ∷ []) ∷ []) [] ((Arg 0 0 ∷ []) ∷ []) ∷ []

@@ -28,7 +28,7 @@ use Rattle.gft_model.specs.TreeStrings.{strings_of, bracketed_strings}
 use Rattle.gft_model.specs.TreeValues.{BracketedValue, bracketed_values}
 use Rattle.gft_model.specs.ValueForms.{string_value, record_value}
 use Rattle.gft_model.specs.TypeForms.{no_value}
-use Rattle.gft_model.proofs.Computing.{results-roll, tree-roll, default-roll, numbered_value-roll, string_leaves-roll, first_string-roll}
+use Rattle.gft_model.proofs.Computing.{results-roll, tree-roll, case_values-roll, numbered_value-roll, string_leaves-roll, first_string-roll}
 
 abbrev pub nowhere : Place
 nowhere = record { file = 0; line = 1; col = 1 }
@@ -159,8 +159,8 @@ literal_is_said = simp (seven, out-roll-Tree, fold-roll-Term, tree-roll, results
 -- Age ?1
 pub hole_is_said : strings_of home (codes "HomeEng") [] (apply (codes "Age") (roll-Tree (Tree-F.Hole 1) ∷ []))
     ≡ (codes "age" ∷ codes "?1" ∷ []) ∷ []
-hole_is_said = simp (one, out-roll-Tree, fold-roll-Term, tree-roll, results-roll, out-roll-Value, numbered_value-roll, string_leaves-roll, first_string-roll, default-roll)
+hole_is_said = simp (one, out-roll-Tree, fold-roll-Term, tree-roll, results-roll, out-roll-Value, numbered_value-roll, string_leaves-roll, first_string-roll, case_values-roll)
 
 -- ?1 of category S
 pub lone_hole_is_said : strings_of home (codes "HomeEng") (codes "S") (roll-Tree (Tree-F.Hole 1)) ≡ (codes "?1" ∷ []) ∷ []
-lone_hole_is_said = simp (one, out-roll-Tree, tree-roll, out-roll-Value, numbered_value-roll, string_leaves-roll, first_string-roll, default-roll)
+lone_hole_is_said = simp (one, out-roll-Tree, tree-roll, numbered_value-roll, string_leaves-roll, first_string-roll, case_values-roll)

@@ -28,7 +28,7 @@ use Rattle.gft_model.specs.ConcreteTyping.{empty_type, sort, Fits, FieldsHave, t
 use Rattle.gft_model.specs.Items.{Item, alternative}
 use Rattle.gft_model.specs.Matching.{match_of, is_matched, parameter}
 use Rattle.gft_model.specs.PatternTyping.{pattern_form, no_more, Scope, PatternFits, Constructs, arguments_of, sequence, variable, literal as text_literal, constructor_with}
-use Rattle.gft_model.specs.TypeForms.{FieldTypes, FieldTerms, record_type, form, str_type, number_type, table_type, function_type, predef_term, greatest, made}
+use Rattle.gft_model.specs.TypeForms.{FieldTypes, record_type, form, str_type, number_type, table_type, function_type, predef_term, greatest, made}
 use Rattle.gft_model.proofs.Computing.{form-roll, pattern_form-roll, match-roll}
 use Rattle.gft_model.proofs.TypeLaws.{type-once}
 use Rattle.gft_model.proofs.FoundTypes.{find-once, fields-empty, check_form_is, same-tag, apart-tags, record-passes}
@@ -170,7 +170,7 @@ module _ (items : List Item) where
       (fewer_labels (out-roll-CType _) (out-roll-CType _) (label refl equal no_label)))
 
   -- {n = 0} does not fit it: s is lacking
-  only_n : {Γ : Scope} {gs fs : FieldTypes} {ls : List (Local Term)} {ts : FieldTerms} → FieldsHave items Γ gs ls fs ts → ls ≡ n_alone → (U : CType) × (fs ≡ (codes "n", U) ∷ [])
+  only_n : {Γ : Scope} {gs fs : FieldTypes} {ls : List (Local Term)} {ts : List (List ℕ × LinTerm)} → FieldsHave items Γ gs ls fs ts → ls ≡ n_alone → (U : CType) × (fs ≡ (codes "n", U) ∷ [])
   only_n no_field h = absurd (cc)
   only_n (value_given {x = x} {T = T} a b c) h = let k : x ≡ codes "n" = cc in let j = fields-empty items c (cc) in (T, cc)
   only_n (value_found {x = x} {T = T} a b c d) h = let k : x ≡ codes "n" = cc in let j = fields-empty items d (cc) in (T, cc)

@@ -16,8 +16,8 @@ use Rattle.gft_model.specs.ConcreteTypes.{cells_of_type, cases_of, product_of}
 use Rattle.gft_model.specs.Items.{items_of}
 use Rattle.gft_model.specs.JudgementTyping.{Signature, signature_in}
 use Rattle.gft_model.specs.Languages.{is_lin, is_lincat, is_lindef, is_linref, lin_type}
-use Rattle.gft_model.specs.Outcomes.{Outcome, gives, stuck_at, Stuck, StuckRule, glue_on_argument, match_on_argument, no_string_branch}
-use Rattle.gft_model.specs.Productions.{outcomes_by_case, case_values, given}
+use Rattle.gft_model.specs.Outcomes.{Outcome, gives, stuck_at, given, Stuck, StuckRule, glue_on_argument, match_on_argument, no_string_branch}
+use Rattle.gft_model.specs.Productions.{outcomes_by_case, case_values}
 use Rattle.gft_model.specs.Refusals.{Moment, refusal, placeless, name_moment}
 use Rattle.gft_model.specs.TreeStrings.{string_outcomes}
 use Rattle.gft_model.specs.TreeValues.{hole_outcomes}

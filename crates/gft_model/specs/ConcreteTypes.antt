@@ -1,6 +1,8 @@
 -- Concrete types: their values in order, their cells and cases, and which is a subtype of which.
-use Rattle.std.specs.Prelude.{◌≡◌, ℕ, zero, suc, ◌+◌, ◌*◌, List, [], ◌∷◌, ◌++◌, map, Bool, true, false, ◌≤◌, Option, Some, None, bytes_eq, if◌then◌else◌}
-use Rattle.std.specs.List.{flat_map, list_all}
+use Rattle.std.specs.Prelude.{◌≡◌, ℕ, zero, suc, ◌+◌, ◌*◌, List, [], ◌∷◌, ◌++◌, map, Bool, true, false, not, ◌≤◌, Option, Some, None, bytes_eq}
+use Rattle.std.specs.List.{filter, flat_map, list_all}
+use Rattle.std.specs.Map.{lookup}
+use Rattle.std.specs.Option.{is_some, option_to_list}
 use Rattle.gft_syntax.specs.declared.ctype.CType.{CType, out-CType}
 use Rattle.gft_syntax.specs.declared.ctype.CType.TheOpen.{CType-F}
 use Rattle.gft_syntax.specs.declared.ctype.CType.TheFolds.{fold-CType, map-CType, para-CType}
@@ -68,44 +70,39 @@ count_step d = 0
 abbrev pub count_of : CType → ℕ
 count_of = fold-CType ℕ count_step
 
--- a leaf of a type: a string, or a parameter with its values in order
-pub data Leaf : Type 0 where
-  string_leaf : Leaf
-  parameter_leaf : List Param → Leaf
-
--- a leaf with the way to it
-pub record LeafAt : Type 0 where
+-- a leaf of a type, with the way to it: a string, or a parameter, whose values it has in order
+pub record Leaf : Type 0 where
   pub steps : List PathStep
-  pub leaf : Leaf
+  pub values : Option (List Param)
 
 -- a step before the way
-abbrev pub below : PathStep → LeafAt → LeafAt
-below step c = record { steps = step ∷ c.steps; leaf = c.leaf }
+abbrev pub below : PathStep → Leaf → Leaf
+below step c = record { steps = step ∷ c.steps; values = c.values }
 
 -- the values of a layer's type, its parts given beside what is made of them
 abbrev pub layer_values : {A : Type 0} → CType-F (CType × A) → List Param
 layer_values {A} d = values_step (map-CType (CType × A) (List Param) (λ p. values_of p.0) d)
 
 -- one leaf, at the type itself
-abbrev pub one_leaf : Leaf → List LeafAt
-one_leaf leaf = record { steps = []; leaf = leaf } ∷ []
+abbrev pub one_leaf : Option (List Param) → List Leaf
+one_leaf vs = record { steps = []; values = vs } ∷ []
 
 -- the leaves of a layer's type, from those of its parts
-abbrev pub leaves_step : CType-F (CType × List LeafAt) → List LeafAt
-leaves_step CType-F.Str = one_leaf string_leaf
-leaves_step (CType-F.Param w cs) = one_leaf (parameter_leaf (layer_values (CType-F.Param w cs)))
-leaves_step (CType-F.Ints n) = one_leaf (parameter_leaf (map number_param (upto n)))
+abbrev pub leaves_step : CType-F (CType × List Leaf) → List Leaf
+leaves_step CType-F.Str = one_leaf None
+leaves_step (CType-F.Param w cs) = one_leaf (Some (layer_values (CType-F.Param w cs)))
+leaves_step (CType-F.Ints n) = one_leaf (Some (map number_param (upto n)))
 leaves_step (CType-F.Record fs) = flat_map (λ f. map (below (Label f.0)) f.1.1) fs
 leaves_step (CType-F.Table P V) = flat_map (λ v. map (below (Cell v)) V.1) (values_of P.0)
 leaves_step d = []
 
 -- the cells of a type: its leaves, labels in byte order, tables in the order of their values
-abbrev pub cells_of_type : CType → List LeafAt
-cells_of_type = para-CType (List LeafAt) leaves_step
+abbrev pub cells_of_type : CType → List Leaf
+cells_of_type = para-CType (List Leaf) leaves_step
 
 -- the values of a leaf that is a parameter
-abbrev pub leaf_values : LeafAt → List (List Param)
-leaf_values c = elim c.leaf [ string_leaf ↦ [] | parameter_leaf vs ↦ vs ∷ [] ]
+abbrev pub leaf_values : Leaf → List (List Param)
+leaf_values c = option_to_list c.values
 
 -- the cases of a type in order: one value for each parameter cell, the first cell counting most
 abbrev pub cases_of : CType → List (List Param)
@@ -113,12 +110,11 @@ cases_of T = choices (flat_map leaf_values (cells_of_type T))
 
 -- the ways to the string cells of a type, in order
 abbrev pub string_cells : CType → List (List PathStep)
-string_cells T = flat_map (λ c. elim c.leaf [ string_leaf ↦ c.steps ∷ [] | parameter_leaf vs ↦ [] ]) (cells_of_type T)
+string_cells T = map (λ c. c.steps) (filter (λ c. not (is_some c.values)) (cells_of_type T))
 
 -- a field of a record or of a record type: the first with that label
 abbrev pub field_of : {A : Type 0} → List ℕ → List (List ℕ × A) → Option A
-field_of l [] = None
-field_of l (f ∷ fs) = if bytes_eq l f.0 then Some f.1 else field_of l fs
+field_of l fs = lookup (bytes_eq l) fs
 
 -- the fields of a record type, the sides of a table type, and those of a function type
 abbrev pub record_in : CType-F CType → Option (List (List ℕ × CType))

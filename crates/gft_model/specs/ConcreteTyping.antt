@@ -27,7 +27,7 @@ use Rattle.gft_model.specs.ConcreteTypes.{field_of, count_of, values_of, record_
 use Rattle.gft_model.specs.Items.{Item, alternative}
 use Rattle.gft_model.specs.Matching.{parameter, match_of, is_matched}
 use Rattle.gft_model.specs.PatternTyping.{Scope, PatternFits, Constructs}
-use Rattle.gft_model.specs.TypeForms.{FieldTypes, FieldTerms, BranchTerms, LocalTerms, form, str_type, number_type, record_type, table_type, functions, sort_type, sort_param, made, no_value, bound, with_bound, bound_pattern, constructor_term, predef_type, predef_term, predef_named}
+use Rattle.gft_model.specs.TypeForms.{FieldTypes, form, str_type, number_type, record_type, table_type, functions, sort_type, sort_param, made, no_value, bound, with_bound, bound_pattern, constructor_term, predef_type, predef_term, predef_named}
 use Rattle.gft_model.specs.Values.{extended}
 pub use Rattle.gft_model.specs.WrittenTypes.{IsData, most_values, IsDomain, for_each, Standing, a_parameter, a_constructor, an_oper, an_overload, nothing, is_constructor, standing_from, At, Stands, IsType, text_type, type_of_types, type_of_parameters, numbers_to, labels, table_over, function_from, pair_of, parameters_named, oper_named, definition_named, IsParameter, parameter_of, AreConstructors, no_constructor, constructor, AreArguments, no_argument, arguments, AreLabels, no_label, label, AreFactors, last_factor, next_factor}
 
@@ -89,7 +89,7 @@ abbrev pub with_names : List (List ℕ) → CType → Scope → Scope
 with_names xs T Γ = reverse (map (λ x. (x, T)) xs) ++ Γ
 
 -- a term under its locals
-abbrev pub with_lets : LocalTerms → LinTerm → LinTerm
+abbrev pub with_lets : List (List (List ℕ) × LinTerm) → LinTerm → LinTerm
 with_lets [] t = t
 with_lets (d ∷ ds) t = made (Lin-F.Let d.0 d.1 (with_lets ds t))
 
@@ -241,19 +241,19 @@ module _ (items : List Item) where
       member : {Γ e es T t ts : _} → Checks Γ e T t → IsData T → MembersCheck Γ es T ts → MembersCheck Γ (e ∷ es) T (t ∷ ts)
 
     -- branches in the same way, each under its pattern's variables
-    pub data BranchesFind : Scope → CType → List (Case Term) → CType → BranchTerms → Type 0 where
+    pub data BranchesFind : Scope → CType → List (Case Term) → CType → List (Pattern × LinTerm) → Type 0 where
       first_branch : {Γ Δ P V : _} {c : Case Term} {cs t bs : _} → PatternFits P c.pattern Δ → Finds (Δ ++ Γ) c.body V t →
           IsData V → BranchesCheck Γ P cs V bs → BranchesFind Γ P (c ∷ cs) V ((c.pattern, t) ∷ bs)
 
     -- branches whose bodies are given a type
-    pub data BranchesCheck : Scope → CType → List (Case Term) → CType → BranchTerms → Type 0 where
+    pub data BranchesCheck : Scope → CType → List (Case Term) → CType → List (Pattern × LinTerm) → Type 0 where
       no_branch : {Γ P V : _} → BranchesCheck Γ P [] V []
       branch : {Γ Δ P V : _} {c : Case Term} {cs t bs : _} → PatternFits P c.pattern Δ → Checks (Δ ++ Γ) c.body V t → IsData V →
           BranchesCheck Γ P cs V bs → BranchesCheck Γ P (c ∷ cs) V ((c.pattern, t) ∷ bs)
 
     -- fields of data as written: one whose label has a given type is given it, one with a type of its
     -- own is given that, and every other is found
-    pub data FieldsHave : Scope → FieldTypes → List (Local Term) → FieldTypes → FieldTerms → Type 0 where
+    pub data FieldsHave : Scope → FieldTypes → List (Local Term) → FieldTypes → List (List ℕ × LinTerm) → Type 0 where
       no_field : {Γ gs : _} → FieldsHave Γ gs [] [] []
       value_given : {Γ gs fs x e ls ts T t : _} → field_of x gs ≡ Some T → Checks Γ e T t → FieldsHave Γ gs ls fs ts →
           FieldsHave Γ gs (Value (x ∷ []) e ∷ ls) ((x, T) ∷ fs) ((x, t) ∷ ts)
@@ -265,7 +265,7 @@ module _ (items : List Item) where
           FieldsHave Γ gs ls fs ts → FieldsHave Γ gs (TypedValue (x ∷ []) D e ∷ ls) ((x, S) ∷ fs) ((x, t) ∷ ts)
 
     -- locals of data, each seeing those before it; the names of one do not see each other
-    pub data Defines : Scope → List (Local Term) → Scope → LocalTerms → Type 0 where
+    pub data Defines : Scope → List (Local Term) → Scope → List (List (List ℕ) × LinTerm) → Type 0 where
       no_local : {Γ : _} → Defines Γ [] Γ []
       local : {Γ Δ xs e ls ds T t : _} → Finds Γ e T t → IsData T → Defines (with_names xs T Γ) ls Δ ds →
           Defines Γ (Value xs e ∷ ls) Δ ((xs, t) ∷ ds)

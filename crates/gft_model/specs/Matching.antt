@@ -1,10 +1,11 @@
 -- What patterns match: parameter values, and texts.
 use Rattle.std.specs.Prelude.{ℕ, suc, ◌==◌, List, [], ◌∷◌, ◌++◌, map, length, Bool, true, false, not, ◌&&◌, ◌||◌, Option, Some, None, bytes_eq, chars, encode_utf8_all, decimal, if◌then◌else◌, option_map}
+use Rattle.std.specs.List.{enumerate_from, flat_map}
+use Rattle.std.specs.Option.{option_map_or}
 use Rattle.gft_core.specs.Words.{words_of, joined}
 use Rattle.gft_core.specs.declared.symbol.Sym.{Sym}
 use Rattle.gft_core.specs.declared.symbol.Sym.TheVariants.{Tok, Arg}
 use Rattle.gft_syntax.specs.declared.reference.Whole.{Whole}
-use Rattle.gft_syntax.specs.declared.reference.Reference.{Reference}
 use Rattle.gft_syntax.specs.declared.reference.Reference.TheVariants as Reference-V
 use Rattle.gft_syntax.specs.declared.pattern.Pattern.{Pattern}
 use Rattle.gft_syntax.specs.declared.pattern.PatternField.{PatternField}
@@ -12,10 +13,10 @@ use Rattle.gft_syntax.specs.declared.pattern.Pattern.TheOpen.{Pattern-F}
 use Rattle.gft_syntax.specs.declared.pattern.Pattern.TheFolds.{fold-Pattern}
 use Rattle.gft_syntax.specs.declared.value.Param.{Param, out-Param}
 use Rattle.gft_syntax.specs.declared.value.Param.TheOpen.{Param-F}
-use Rattle.gft_syntax.specs.declared.value.Param.TheFolds.{fold-Param}
+use Rattle.gft_syntax.specs.declared.value.Param.TheFolds.{para-Param}
 use Rattle.gft_syntax.specs.declared.value.Value.{Value}
 use Rattle.gft_model.specs.ConcreteTypes.{field_of}
-use Rattle.gft_model.specs.ValueForms.{con_param, number_param, record_param, string_value, param_value, record_value}
+use Rattle.gft_model.specs.ValueForms.{con_param, number_param, string_value, param_value, record_value}
 
 -- two whole names are the same
 abbrev pub same_whole : Whole → Whole → Bool
@@ -25,21 +26,22 @@ same_whole a b = bytes_eq a.module b.module && bytes_eq a.name b.name
 abbrev pub tuple_label : ℕ → List ℕ
 tuple_label n = 112 ∷ decimal (suc n)
 
--- the items of a tuple as fields with the labels p1, p2, ..
-abbrev pub tuple_patterns : {A : Type 0} → ℕ → List A → List (PatternField A)
-tuple_patterns n [] = []
-tuple_patterns n (p ∷ ps) = record { labels = tuple_label n ∷ []; pattern = p } ∷ tuple_patterns (suc n) ps
+-- the items of a tuple with the labels p1, p2, ..
+abbrev pub tuple_fields : {A : Type 0} → List A → List (List ℕ × A)
+tuple_fields es = map (λ e. (tuple_label e.0, e.1)) (enumerate_from 0 es)
 
--- a parameter value, and the value that it is: a record of parameters is a record
-abbrev pub value_step : Param-F (Param × Value) → Param × Value
-value_step (Param-F.Con w vs) = let v = con_param w (map (λ p. p.0) vs) in (v, param_value v)
-value_step (Param-F.Ints n) = (number_param n, param_value (number_param n))
-value_step (Param-F.Record fs) =
-    (record_param (map (λ f. (f.0, f.1.0)) fs), record_value (map (λ f. (f.0, f.1.1)) fs))
+-- the patterns of fields label by label: a, b = p as a = p ; b = p
+abbrev pub label_by_label : {A : Type 0} → List (PatternField A) → List (List ℕ × A)
+label_by_label fs = flat_map (λ f. map (λ l. (l, f.pattern)) f.labels) fs
 
--- the value that a parameter value is
+-- the value that a parameter value is: a record of parameters is a record
+abbrev pub value_step : Param-F (Param × Value) → Value
+value_step (Param-F.Con w vs) = param_value (con_param w (map (λ p. p.0) vs))
+value_step (Param-F.Ints n) = param_value (number_param n)
+value_step (Param-F.Record fs) = record_value (map (λ f. (f.0, f.1.1)) fs)
+
 abbrev pub value_of : Param → Value
-value_of v = (fold-Param (Param × Value) value_step v).1
+value_of = para-Param Value value_step
 
 -- the string of known words
 abbrev pub words_value : List (List ℕ) → Value
@@ -79,17 +81,14 @@ pub data Match : Type 0 where
 
 -- the second where the first differs
 abbrev pub or_else : Match → Match → Match
-or_else (matched bs) m = matched bs
-or_else differs m = m
-or_else hidden m = hidden
+or_else differs n = n
+or_else m n = m
 
 -- both, with the bindings of both
 abbrev pub and_also : Match → Match → Match
 and_also (matched bs) (matched cs) = matched (bs ++ cs)
-and_also (matched bs) differs = differs
-and_also (matched bs) hidden = hidden
-and_also differs m = differs
-and_also hidden m = hidden
+and_also (matched bs) m = m
+and_also m n = m
 
 -- a match that binds nothing, or none
 abbrev pub matched_if : Bool → Match
@@ -100,11 +99,6 @@ abbrev pub on_text : (List ℕ → Match) → Subject → Match
 on_text f (parameter v) = differs
 on_text f (text cs) = f cs
 on_text f (closed ss) = hidden
-
--- only parameters are told apart
-abbrev pub on_parameter : (Param-F Param → Match) → Subject → Match
-on_parameter f (parameter v) = f (out-Param v)
-on_parameter f s = differs
 
 -- the text in two parts of which the left has n characters or as few more as let both match
 abbrev pub shortest_split : (List ℕ → Match) → (List ℕ → Match) → List ℕ → List ℕ → Match
@@ -128,52 +122,34 @@ match_all [] [] = matched []
 match_all (p ∷ ps) (v ∷ vs) = and_also (p (parameter v)) (match_all ps vs)
 match_all ps vs = differs
 
--- the pattern on the field of each label
-abbrev pub match_labels : (Subject → Match) → List (List ℕ × Param) → List (List ℕ) → Match
-match_labels p fs [] = matched []
-match_labels p fs (l ∷ ls) =
-    elim (field_of l fs) [ None ↦ differs | Some v ↦ and_also (p (parameter v)) (match_labels p fs ls) ]
-
--- the patterns of fields on a record
-abbrev pub match_fields : List (PatternField (Subject → Match)) → List (List ℕ × Param) → Match
+-- the pattern of each label on its field of a record
+abbrev pub match_fields : List (List ℕ × (Subject → Match)) → List (List ℕ × Param) → Match
 match_fields [] fs = matched []
-match_fields (f ∷ rest) fs = and_also (match_labels f.pattern fs f.labels) (match_fields rest fs)
+match_fields (p ∷ ps) fs = option_map_or (λ v. and_also (p.1 (parameter v)) (match_fields ps fs)) (field_of p.0 fs) differs
 
--- a constructor with arguments
-abbrev pub match_constructor : Whole → List (Subject → Match) → Param-F Param → Match
-match_constructor w ps (Param-F.Con c vs) = if same_whole w c then match_all ps vs else differs
-match_constructor w ps v = differs
+-- a layer on a parameter; a whole name is a constructor
+abbrev pub match_parameter : Pattern-F (Subject → Match) → Param-F Param → Match
+match_parameter (Pattern-F.Con m (Reference-V.Whole w) ps place) (Param-F.Con c vs) =
+    if same_whole w c then match_all ps vs else differs
+match_parameter (Pattern-F.Name (Reference-V.Whole w) place) (Param-F.Con c vs) =
+    if same_whole w c then match_all [] vs else differs
+match_parameter (Pattern-F.Num n place) (Param-F.Ints m) = matched_if (n == m)
+match_parameter (Pattern-F.Fields fs place) (Param-F.Record gs) = match_fields (label_by_label fs) gs
+match_parameter (Pattern-F.Tuple ps place) (Param-F.Record gs) = match_fields (tuple_fields ps) gs
+match_parameter p v = differs
 
--- a number and the same number
-abbrev pub match_number : ℕ → Param-F Param → Match
-match_number n (Param-F.Ints m) = matched_if (n == m)
-match_number n v = differs
-
--- a record by the labels that are named
-abbrev pub match_record : (List (List ℕ × Param) → Match) → Param-F Param → Match
-match_record f (Param-F.Record fs) = f fs
-match_record f v = differs
-
--- a whole name is a constructor; one that is still as written is a variable
-abbrev pub match_name : Reference → List (Subject → Match) → Subject → Match
-match_name (Reference-V.Written x) ps s = matched ((x, subject_value s) ∷ [])
-match_name (Reference-V.Found o) ps s = differs
-match_name (Reference-V.Whole w) ps s = on_parameter (match_constructor w ps) s
-
--- what a layer matches, from what its parts match
+-- what a layer matches, from what its parts match; a name that is still as written is a variable
 abbrev pub match_step : Pattern-F (Subject → Match) → Subject → Match
 match_step (Pattern-F.Or p q place) s = or_else (p s) (q s)
 match_step (Pattern-F.Seq p q place) s = on_text (shortest_split (λ cs. p (text cs)) (λ cs. q (text cs)) []) s
-match_step (Pattern-F.Con m r ps place) s = match_name r ps s
 match_step (Pattern-F.Star p place) s = on_text (λ cs. matched_if (repeats (λ ds. p (text ds)) [] cs)) s
 match_step (Pattern-F.As x p place) s = and_also (matched ((x, subject_value s) ∷ [])) (p s)
 match_step (Pattern-F.Any place) s = matched []
 match_step (Pattern-F.One place) s = on_text (λ cs. matched_if (length cs == 1)) s
-match_step (Pattern-F.Name r place) s = match_name r [] s
+match_step (Pattern-F.Name (Reference-V.Written x) place) s = matched ((x, subject_value s) ∷ [])
 match_step (Pattern-F.Text t place) s = on_text (λ cs. matched_if (bytes_eq cs (chars t))) s
-match_step (Pattern-F.Num n place) s = on_parameter (match_number n) s
-match_step (Pattern-F.Fields fs place) s = on_parameter (match_record (match_fields fs)) s
-match_step (Pattern-F.Tuple ps place) s = on_parameter (match_record (match_fields (tuple_patterns 0 ps))) s
+match_step p (parameter v) = match_parameter p (out-Param v)
+match_step p s = differs
 
 -- what a pattern makes of a subject: its variables where it matches
 abbrev pub match_of : Pattern → Subject → Match

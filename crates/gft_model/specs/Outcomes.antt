@@ -1,5 +1,7 @@
 -- The outcomes of a typed term in an environment of values.
-use Rattle.std.specs.Prelude.{ℕ, zero, suc, List, [], ◌∷◌, ◌++◌, map, length, reverse, zip, Option, Some, None, chars, encode_utf8_all, option_and_then, slice_get}
+use Rattle.std.specs.Prelude.{ℕ, zero, suc, List, [], ◌∷◌, ◌++◌, map, length, reverse, zip, Option, Some, None, chars, encode_utf8_all, option_and_then, option_map, slice_get}
+use Rattle.std.specs.Map.{keys_of}
+use Rattle.std.specs.Option.{option_map_or}
 use Rattle.gft_core.specs.Words.{words_of, joined}
 use Rattle.gft_core.specs.declared.place.Place.{Place}
 use Rattle.gft_core.specs.declared.symbol.Sym.{Sym}
@@ -18,7 +20,7 @@ use Rattle.gft_syntax.specs.declared.value.Param.{Param, out-Param}
 use Rattle.gft_syntax.specs.declared.value.Param.TheOpen.{Param-F}
 use Rattle.gft_syntax.specs.declared.value.Value.{Value, out-Value}
 use Rattle.gft_syntax.specs.declared.value.Value.TheOpen.{Value-F}
-use Rattle.gft_model.specs.Values.{param_of, params_of, entry_at, extended, part, glued, cut_value}
+use Rattle.gft_model.specs.Values.{string_in, fields_in, entries_in, all_there, param_of, entry_at, extended, part, glued, cut_value}
 use Rattle.gft_model.specs.ConcreteTypes.{field_of, values_of}
 use Rattle.gft_model.specs.Matching.{Bindings, Match, matched, differs, hidden, Subject, parameter, closed, match_of, string_subject, known_words, words_value}
 use Rattle.gft_model.specs.ValueForms.{con_param, number_param, string_value, param_value, record_value, table_value}
@@ -38,6 +40,12 @@ pub record Stuck : Type 0 where
 pub data Outcome : Type 0 where
   gives : Value → Outcome
   stuck_at : Stuck → Outcome
+
+-- the values among outcomes
+abbrev pub given : List Outcome → List Value
+given [] = []
+given (gives v ∷ os) = v ∷ given os
+given (stuck_at k ∷ os) = given os
 
 -- what a term may mean, and its outcomes in order
 mutual
@@ -109,99 +117,62 @@ bind_in (Some x) v env = bind_all ((x, v) ∷ []) env
 
 -- a value that is there
 abbrev pub just : Option Value → Results
-just None = none
-just (Some v) = one (plain v)
+just v = option_map_or (λ u. one (plain u)) v none
 
--- where a string is wanted; another value has no outcome
-abbrev pub on_string : (List Sym → Results) → Value-F Value → Results
-on_string f (Value-F.Str ss) = f ss
-on_string f d = none
+-- for each outcome what comes next of the part that is wanted; a value without it has no outcome
+abbrev pub with_part : {A : Type 0} → (Value-F Value → Option A) → Results → (A → Results) → Results
+with_part view r next = with_value r (λ v. option_map_or next (view (out-Value v)) none)
 
--- where a record is wanted
-abbrev pub on_record : (List (List ℕ × Value) → Results) → Value-F Value → Results
-on_record f (Value-F.Record fs) = f fs
-on_record f d = none
-
--- where a table is wanted
-abbrev pub on_table : (List (Param × Value) → Results) → Value-F Value → Results
-on_table f (Value-F.Table es) = f es
-on_table f d = none
-
--- the string of each outcome
-abbrev pub with_string : Results → (List Sym → Results) → Results
-with_string r next = with_value r (λ v. on_string next (out-Value v))
-
--- a parameter where one is wanted
+-- the same of the parameter that a value is
 abbrev pub with_param : Results → (Param → Results) → Results
-with_param r next = with_value r (λ v. elim (param_of v) [ None ↦ none | Some p ↦ next p ])
+with_param r next = with_value r (λ v. option_map_or next (param_of v) none)
 
--- both strings known: glued; else stuck
-abbrev pub glue_strings : Place → List Sym → List Sym → Results
-glue_strings place ss ts =
-    elim (known_words ss) [
-      | None ↦ stuck_by glue_on_argument place
-      | Some us ↦ elim (known_words ts)
-          [ None ↦ stuck_by glue_on_argument place | Some vs ↦ one (plain (words_value (glued us vs))) ]
-    ]
+-- what is made of the words of a string that holds words only; else it is stuck
+abbrev pub with_words : StuckRule → Place → List Sym → (List (List ℕ) → Results) → Results
+with_words rule place ss next = option_map_or next (known_words ss) (stuck_by rule place)
 
--- a part of a known text, cut into words again; else stuck
-abbrev pub predef_string : Predef → Place → ℕ → List Sym → Results
-predef_string p place n ss =
-    elim (known_words ss) [
-      | None ↦ stuck_by match_on_argument place
-      | Some ws ↦ one (plain (words_value (words_of (encode_utf8_all (part p n (chars (joined ws)))))))
-    ]
+-- a part of a known text, cut into words again
+abbrev pub predef_string : Predef → ℕ → List (List ℕ) → Results
+predef_string p n ws = one (plain (words_value (words_of (encode_utf8_all (part p n (chars (joined ws)))))))
 
 -- where a number is wanted
 abbrev pub on_number : (ℕ → Results) → Param-F Param → Results
 on_number f (Param-F.Ints n) = f n
 on_number f v = none
 
--- the first branch that matches; where none does, a text is stuck
+-- where no branch matches, a text is stuck
 abbrev pub no_branch : Place → Subject → Results
 no_branch place (parameter v) = none
 no_branch place (Subject.text cs) = stuck_by no_string_branch place
 no_branch place (closed ss) = stuck_by match_on_argument place
 
--- the branch, the next one, or a stuck step
-abbrev pub taken : Match → (Bindings → Results) → Place → Results → Results
-taken (matched bs) here place after = here bs
-taken differs here place after = after
-taken hidden here place after = stuck_by match_on_argument place
+-- the branch, the next one, or what there is where that cannot be told
+abbrev pub taken : Match → (Bindings → Results) → Results → Results → Results
+taken (matched bs) here after untold = here bs
+taken differs here after untold = after
+taken hidden here after untold = untold
 
--- the first branch that matches
-abbrev pub first_match : Place → Subject → List (Pattern × (Environment → Results)) → Environment → Results
-first_match place s [] env = no_branch place s
-first_match place s (b ∷ bs) env =
-    taken (match_of b.0 s) (λ vs. b.1 (bind_all vs env)) place (first_match place s bs env)
+-- the first branch that matches; else the one, where that cannot be told, or the other, where none matches
+abbrev pub first_match : Results → Results → Subject → List (Pattern × (Environment → Results)) → Environment → Results
+first_match untold unmatched s [] env = unmatched
+first_match untold unmatched s (b ∷ bs) env =
+    taken (match_of b.0 s) (λ vs. b.1 (bind_all vs env)) (first_match untold unmatched s bs env) untold
 
 -- the item at the subject's number among the values of the type
 abbrev pub item_at : Subject → List (Param × (Environment → Results)) → Environment → Results
-item_at (parameter v) items env = elim (entry_at v items) [ None ↦ none | Some t ↦ t env ]
+item_at (parameter v) items env = option_map_or (λ t. t env) (entry_at v items) none
 item_at s items env = none
 
 -- the branch at the subject
-abbrev pub branch_at : Place → Subject → Branches (Environment → Results) → Environment → Results
-branch_at place s (Matched bs) env = first_match place s bs env
-branch_at place s (Listed P ts) env = item_at s (zip (values_of P) ts) env
-
--- the cell of a table at a parameter value
-abbrev pub first_cell : Param → List (Pattern × (Environment → Results)) → Environment → Results
-first_cell v [] env = none
-first_cell v (b ∷ bs) env =
-    elim (match_of b.0 (parameter v))
-    [ matched vs ↦ b.1 (bind_all vs env) | differs ↦ first_cell v bs env | hidden ↦ none ]
-
--- the cell, of branches of either kind
-abbrev pub cell_at : Param → Branches (Environment → Results) → Environment → Results
-cell_at v (Matched bs) env = first_cell v bs env
-cell_at v (Listed P ts) env = item_at (parameter v) (zip (values_of P) ts) env
+abbrev pub branch_at : Results → Results → Subject → Branches (Environment → Results) → Environment → Results
+branch_at untold unmatched s (Matched bs) env = first_match untold unmatched s bs env
+branch_at untold unmatched s (Listed P ts) env = item_at s (zip (values_of P) ts) env
 
 -- what a selector is to branches
 abbrev pub subject_of : Value-F Value → Value → (Subject → Results) → Results
 subject_of (Value-F.Str ss) v next = next (string_subject ss)
 subject_of (Value-F.Param p) v next = next (parameter p)
-subject_of d v next = elim (param_of v) [ None ↦ none | Some p ↦ next (parameter p) ]
+subject_of d v next = option_map_or (λ p. next (parameter p)) (param_of v) none
 
 -- how a function of the given type is made one of a supertype
 abbrev pub Cutting : Type 0
@@ -234,27 +205,29 @@ step opers (LinTerm-F.Words ws) env = one (plain (words_value ws))
 step opers (LinTerm-F.Num n) env = one (plain (param_value (number_param n)))
 step opers (LinTerm-F.Con w ts) env =
     with_values (map (λ t. t env) ts)
-    (λ vs. elim (params_of vs) [ None ↦ none | Some ps ↦ one (plain (param_value (con_param w ps))) ])
+    (λ vs. just (option_map (λ ps. param_value (con_param w ps)) (all_there (map param_of vs))))
 step opers (LinTerm-F.Concat a b) env =
-    with_string (a env) (λ ss. with_string (b env) (λ ts. one (plain (string_value (ss ++ ts)))))
+    with_part string_in (a env) (λ ss. with_part string_in (b env) (λ ts. one (plain (string_value (ss ++ ts)))))
 step opers (LinTerm-F.Glue a b place) env =
-    with_string (a env) (λ ss. with_string (b env) (λ ts. glue_strings place ss ts))
+    with_part string_in (a env) (λ ss. with_part string_in (b env) (λ ts. with_words glue_on_argument place ss
+    (λ us. with_words glue_on_argument place ts (λ vs. one (plain (words_value (glued us vs)))))))
 step opers (LinTerm-F.Predef p n s place) env =
-    with_param (n env) (λ v. on_number (λ k. with_string (s env) (λ ss. predef_string p place k ss)) (out-Param v))
+    with_param (n env) (λ v. on_number (λ k. with_part string_in (s env)
+    (λ ss. with_words match_on_argument place ss (predef_string p k))) (out-Param v))
 step opers (LinTerm-F.Record fs) env =
     with_values (map (λ f. f.1 env) fs)
-    (λ vs. one (plain (record_value (extended [] (zip (map (λ f. f.0) fs) vs)))))
+    (λ vs. one (plain (record_value (extended [] (zip (keys_of fs) vs)))))
 step opers (LinTerm-F.Extend a b) env =
-    with_value (a env) (λ u. on_record (λ fs. with_value (b env) (λ v. on_record (λ gs.
-    one (plain (record_value (extended fs gs)))) (out-Value v))) (out-Value u))
-step opers (LinTerm-F.Proj t x) env = with_value (t env) (λ v. on_record (λ fs. just (field_of x fs)) (out-Value v))
+    with_part fields_in (a env) (λ fs. with_part fields_in (b env) (λ gs. one (plain (record_value (extended fs gs)))))
+step opers (LinTerm-F.Proj t x) env = with_part fields_in (t env) (λ fs. just (field_of x fs))
 step opers (LinTerm-F.Table P bs) env =
-    with_values (map (λ v. cell_at v bs env) (values_of P))
+    with_values (map (λ v. branch_at none none (parameter v) bs env) (values_of P))
     (λ vs. one (plain (table_value (zip (values_of P) vs))))
 step opers (LinTerm-F.Select t e) env =
-    with_value (t env) (λ v. on_table (λ es. with_param (e env) (λ p. just (entry_at p es))) (out-Value v))
+    with_part entries_in (t env) (λ es. with_param (e env) (λ p. just (entry_at p es)))
 step opers (LinTerm-F.Case e bs place) env =
-    with_value (e env) (λ v. subject_of (out-Value v) v (λ s. branch_at place s bs env))
+    with_value (e env) (λ v. subject_of (out-Value v) v
+    (λ s. branch_at (stuck_by match_on_argument place) (no_branch place s) s bs env))
 step opers (LinTerm-F.Variants ts) env = all_of (map (λ t. t env) ts)
 step opers (LinTerm-F.Let xs a b) env =
     with_values (map (λ x. a env) xs) (λ vs. b (bind_all (reverse (zip xs vs)) env))
@@ -280,8 +253,8 @@ no_environment = record { arguments = []; variables = [] }
 abbrev pub opers_within : ℕ → List (Option Typed) → ℕ → Results
 opers_within zero typed k = none
 opers_within (suc n) typed k =
-    elim (option_and_then (λ t. t) (slice_get typed k))
-    [ None ↦ none | Some t ↦ results_of (opers_within n typed) t.term no_environment ]
+    option_map_or (λ t. results_of (opers_within n typed) t.term no_environment)
+    (option_and_then (λ t. t) (slice_get typed k)) none
 
 -- what the opers mean: the outcomes of their definitions; none needs itself
 abbrev pub opers_of : List (Option Typed) → ℕ → Results

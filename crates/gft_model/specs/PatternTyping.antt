@@ -1,5 +1,6 @@
 -- Which patterns fit a type, and the types of their variables.
-use Rattle.std.specs.Prelude.{◌≡◌, ℕ, List, [], ◌∷◌, ◌++◌, map, flat_map, Option, Some, None, if◌then◌else◌}
+use Rattle.std.specs.Prelude.{◌≡◌, ℕ, List, [], ◌∷◌, ◌++◌, map, Option, Some, None}
+use Rattle.std.specs.Map.{lookup}
 use Rattle.gft_syntax.specs.declared.ctype.CType.{CType, out-CType}
 use Rattle.gft_syntax.specs.declared.ctype.CType.TheOpen as CType-F
 use Rattle.gft_syntax.specs.declared.pattern.Pattern.{Pattern, out-Pattern}
@@ -9,7 +10,7 @@ use Rattle.gft_syntax.specs.declared.reference.Whole.{Whole}
 use Rattle.gft_syntax.specs.declared.reference.Reference.TheVariants.{Written, Whole as WholeName}
 use Rattle.gft_model.specs.ConcreteTypes.{field_of, IsSubtype}
 use Rattle.gft_syntax.specs.Patterns.{Layer}
-use Rattle.gft_model.specs.Matching.{same_whole, tuple_patterns}
+use Rattle.gft_model.specs.Matching.{same_whole, tuple_fields, label_by_label}
 use Rattle.gft_model.specs.TypeForms.{FieldTypes, str_type, number_type}
 
 -- variables with their types, the nearest first
@@ -22,8 +23,7 @@ SameScope Γ Δ = (x : List ℕ) → field_of x Γ ≡ field_of x Δ
 
 -- the types of a constructor's arguments: the first of that name
 abbrev pub arguments_of : Whole → List (Whole × List CType) → Option (List CType)
-arguments_of c [] = None
-arguments_of c (d ∷ ds) = if same_whole c d.0 then Some d.1 else arguments_of c ds
+arguments_of c ds = lookup (same_whole c) ds
 
 -- T is the parameter type that has the constructor c, whose arguments have the types
 pub record Constructs (c : Whole) (Ts : List CType) (T : CType) : Type 0 where
@@ -32,16 +32,16 @@ pub record Constructs (c : Whole) (Ts : List CType) (T : CType) : Type 0 where
   pub is_type : out-CType T ≡ CType-F.Param type_name constructors
   pub has : arguments_of c constructors ≡ Some Ts
 
--- a, b = p as a = p ; b = p
-abbrev pub field_by_field : PatternField Pattern → List (PatternField Pattern)
-field_by_field f = map (λ l. record { labels = l ∷ []; pattern = f.pattern }) f.labels
+-- a field of one label
+abbrev pub one_label : List ℕ × Pattern → PatternField Pattern
+one_label f = record { labels = f.0 ∷ []; pattern = f.1 }
 
 -- the form of a pattern without other spellings: a constructor alone is one without arguments, each
 -- field has one label, and a tuple is the record of its items
 abbrev pub plain_pattern : Layer → Layer
 plain_pattern (Name (WholeName c) place) = Con None (WholeName c) [] place
-plain_pattern (Fields fs place) = Fields (flat_map field_by_field fs) place
-plain_pattern (Tuple ps place) = Fields (tuple_patterns 0 ps) place
+plain_pattern (Fields fs place) = Fields (map one_label (label_by_label fs)) place
+plain_pattern (Tuple ps place) = Fields (map one_label (tuple_fields ps)) place
 plain_pattern d = d
 
 -- how typing sees a pattern

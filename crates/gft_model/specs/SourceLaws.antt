@@ -19,7 +19,8 @@ use Rattle.gft_model.specs.ModuleGrammar.{SpellsJudgement, SpellsSlice, SpellsMo
 use Rattle.gft_model.specs.Items.{Item, lincat}
 use Rattle.gft_model.specs.JudgementTyping.{items, IsTyped}
 use Rattle.gft_model.specs.PatternTyping.{Scope, PatternFits}
-use Rattle.gft_model.specs.Productions.{case_values, case_of}
+use Rattle.gft_model.specs.Productions.{case_values}
+use Rattle.gft_model.specs.Values.{case_of}
 use Rattle.gft_model.specs.Outcomes.{Results, Environment, outcomes_of}
 use Rattle.gft_model.specs.Source.{Tokens}
 

@@ -18,24 +18,12 @@ use Rattle.gft_syntax.specs.declared.term.Term.{Term, out-Term}
 use Rattle.gft_syntax.specs.declared.term.Term.TheOpen as Term-F
 use Rattle.gft_syntax.specs.declared.term.Local.{Local}
 use Rattle.gft_syntax.specs.declared.term.Local.TheVariants.{Value, Label, TypedValue}
-use Rattle.gft_model.specs.Matching.{tuple_label}
+use Rattle.gft_model.specs.Matching.{tuple_label, tuple_fields}
 use Rattle.gft_model.specs.Values.{extended}
 
 -- labels with their types
 abbrev pub FieldTypes : Type 0
 FieldTypes = List (List ℕ × CType)
-
--- labels with their typed terms
-abbrev pub FieldTerms : Type 0
-FieldTerms = List (List ℕ × LinTerm)
-
--- branches, typed
-abbrev pub BranchTerms : Type 0
-BranchTerms = List (Pattern × LinTerm)
-
--- the names of each local, with its term
-abbrev pub LocalTerms : Type 0
-LocalTerms = List (List (List ℕ) × LinTerm)
 
 -- the type of strings
 abbrev pub str_type : CType
@@ -70,16 +58,6 @@ abbrev pub functions : List CType → CType → CType
 functions [] R = R
 functions (A ∷ As) R = function_type A (functions As R)
 
--- items with the labels p1, p2, ..
-abbrev pub tuple_fields : {A : Type 0} → ℕ → List A → List (List ℕ × A)
-tuple_fields n [] = []
-tuple_fields n (a ∷ es) = (tuple_label n, a) ∷ tuple_fields (suc n) es
-
--- a tuple is the record with the labels p1, p2, ..
-abbrev pub tuple_locals : ℕ → List Term → List (Local Term)
-tuple_locals n [] = []
-tuple_locals n (e ∷ es) = Value (tuple_label n ∷ []) e ∷ tuple_locals (suc n) es
-
 -- x, y = e as x = e ; y = e
 abbrev pub one_by_one : {A : Type 0} → Local A → List (Local A)
 one_by_one (Value xs e) = map (λ x. Value (x ∷ []) e) xs
@@ -93,7 +71,7 @@ plain_form (Term-F.ListCat (WholeName w) place) = Term-F.Var (WholeName w) place
 plain_form (Term-F.Empty place) = Term-F.Lit [] place
 plain_form (Term-F.Alt a b place) = Term-F.Variants (a ∷ b ∷ []) place
 plain_form (Term-F.Fields ls place) = Term-F.Fields (flat_map one_by_one ls) place
-plain_form (Term-F.Tuple es place) = Term-F.Fields (tuple_locals 0 es) place
+plain_form (Term-F.Tuple es place) = Term-F.Fields (map (λ f. Value (f.0 ∷ []) f.1) (tuple_fields es)) place
 plain_form d = d
 
 -- how typing sees a term

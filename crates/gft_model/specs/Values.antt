@@ -1,5 +1,9 @@
 -- Values: what their parts are, and how they are compared, extended and cut.
 use Rattle.std.specs.Prelude.{ℕ, ◌-◌, List, [], ◌∷◌, ◌++◌, map, take, drop, length, Bool, true, false, ◌&&◌, ◌==◌, nat_lt, Option, Some, None, bytes_eq, if◌then◌else◌, option_map, option_and_then}
+use Rattle.std.specs.List.{filter_map, flat_map, zip}
+use Rattle.std.specs.Map.{keys_of, lookup}
+use Rattle.std.specs.Option.{option_map_or}
+use Rattle.gft_core.specs.declared.symbol.Sym.{Sym}
 use Rattle.gft_syntax.specs.declared.ctype.CType.{CType}
 use Rattle.gft_syntax.specs.declared.ctype.CType.TheOpen.{CType-F}
 use Rattle.gft_syntax.specs.declared.ctype.CType.TheFolds.{fold-CType}
@@ -15,53 +19,67 @@ use Rattle.gft_model.specs.ConcreteTypes.{field_of}
 use Rattle.gft_model.specs.Matching.{same_whole}
 use Rattle.gft_model.specs.ValueForms.{record_param, record_value, table_value}
 
--- a value that is a parameter: records of parameters are parameters too
-abbrev pub all_there : {A : Type 0} → List (List ℕ × Option A) → Option (List (List ℕ × A))
-all_there [] = Some []
-all_there (f ∷ fs) = option_and_then (λ a. option_map (λ rest. (f.0, a) ∷ rest) (all_there fs)) f.1
+-- the string that a layer is, the fields of a record, the entries of a table
+abbrev pub string_in : {A : Type 0} → Value-F A → Option (List Sym)
+string_in (Value-F.Str ss) = Some ss
+string_in d = None
 
--- the parameter that a layer is
+abbrev pub fields_in : {A : Type 0} → Value-F A → Option (List (List ℕ × A))
+fields_in (Value-F.Record fs) = Some fs
+fields_in d = None
+
+abbrev pub entries_in : {A : Type 0} → Value-F A → Option (List (Param × A))
+entries_in (Value-F.Table es) = Some es
+entries_in d = None
+
+-- what is made of the strings and the parameters of a layer, in order
+abbrev pub leaves_step : {A : Type 0} → (List Sym → List A) → (Param → List A) → Value-F (List A) → List A
+leaves_step of_string of_parameter (Value-F.Str ss) = of_string ss
+leaves_step of_string of_parameter (Value-F.Param v) = of_parameter v
+leaves_step of_string of_parameter (Value-F.Record fs) = flat_map (λ f. f.1) fs
+leaves_step of_string of_parameter (Value-F.Table es) = flat_map (λ e. e.1) es
+
+-- the string leaves of a value, in order
+abbrev pub string_leaves : Value → List (List Sym)
+string_leaves = fold-Value (List (List Sym)) (leaves_step (λ ss. ss ∷ []) (λ v. []))
+
+-- the case of a value: its parameters, in order
+abbrev pub case_of : Value → List Param
+case_of = fold-Value (List Param) (leaves_step (λ ss. []) (λ v. v ∷ []))
+
+-- all of them, where each is there
+abbrev pub all_there : {A : Type 0} → List (Option A) → Option (List A)
+all_there [] = Some []
+all_there (o ∷ os) = option_and_then (λ a. option_map (λ rest. a ∷ rest) (all_there os)) o
+
+-- the parameter that a value is: records of parameters are parameters too
 abbrev pub param_step : Value-F (Option Param) → Option Param
 param_step (Value-F.Param v) = Some v
-param_step (Value-F.Record fs) = option_map record_param (all_there fs)
+param_step (Value-F.Record fs) = option_map (λ vs. record_param (zip (keys_of fs) vs)) (all_there (map (λ f. f.1) fs))
 param_step d = None
 
--- the parameter that a value is
 abbrev pub param_of : Value → Option Param
 param_of = fold-Value (Option Param) param_step
 
--- those that several are
-abbrev pub params_of : List Value → Option (List Param)
-params_of [] = Some []
-params_of (v ∷ vs) = option_and_then (λ p. option_map (λ ps. p ∷ ps) (params_of vs)) (param_of v)
-
--- two parameter values are the same
-abbrev pub each_same : List (Param → Bool) → List Param → Bool
+-- each test on its own item
+abbrev pub each_same : {A : Type 0} → List (A → Bool) → List A → Bool
 each_same [] [] = true
 each_same (f ∷ fs) (v ∷ vs) = f v && each_same fs vs
 each_same fs vs = false
 
--- fields one by one
-abbrev pub fields_same : List (List ℕ × (Param → Bool)) → List (List ℕ × Param) → Bool
-fields_same [] [] = true
-fields_same (f ∷ fs) (v ∷ vs) = bytes_eq f.0 v.0 && f.1 v.1 && fields_same fs vs
-fields_same fs vs = false
-
--- a layer and a parameter value
+-- two parameter values are the same
 abbrev pub same_step : Param-F (Param → Bool) → Param-F Param → Bool
 same_step (Param-F.Con w fs) (Param-F.Con c vs) = same_whole w c && each_same fs vs
 same_step (Param-F.Ints m) (Param-F.Ints n) = m == n
-same_step (Param-F.Record fs) (Param-F.Record vs) = fields_same fs vs
+same_step (Param-F.Record fs) (Param-F.Record vs) = each_same (map (λ f. λ v. bytes_eq f.0 v.0 && f.1 v.1) fs) vs
 same_step d v = false
 
--- two parameter values are the same
 abbrev pub same_param : Param → Param → Bool
 same_param = fold-Param (Param → Bool) (λ d v. same_step d (out-Param v))
 
 -- what stands at a parameter value
 abbrev pub entry_at : {A : Type 0} → Param → List (Param × A) → Option A
-entry_at v [] = None
-entry_at v (e ∷ es) = if same_param v e.0 then Some e.1 else entry_at v es
+entry_at v es = lookup (same_param v) es
 
 -- the label of the first comes before that of the second, byte by byte
 abbrev pub label_before : List ℕ → List ℕ → Bool
@@ -94,26 +112,12 @@ glued (u ∷ []) [] = u ∷ []
 glued (u ∷ []) (v ∷ vs) = (u ++ v) ∷ vs
 glued (u ∷ w ∷ us) vs = u ∷ glued (w ∷ us) vs
 
--- a value cut to the labels of a type
-abbrev pub cut_fields : List (List ℕ × (Value → Value)) → List (List ℕ × Value) → List (List ℕ × Value)
-cut_fields [] fs = []
-cut_fields (g ∷ gs) fs =
-    elim (field_of g.0 fs) [ None ↦ cut_fields gs fs | Some v ↦ (g.0, g.1 v) ∷ cut_fields gs fs ]
-
--- a record cut to fields
-abbrev pub cut_record : List (List ℕ × (Value → Value)) → Value → Value-F Value → Value
-cut_record gs v (Value-F.Record fs) = record_value (cut_fields gs fs)
-cut_record gs v d = v
-
--- a table, each value cut
-abbrev pub cut_table : (Value → Value) → Value → Value-F Value → Value
-cut_table f v (Value-F.Table es) = table_value (map (λ e. (e.0, f e.1)) es)
-cut_table f v d = v
-
--- what cutting to a layer does
+-- what cutting to a layer does: a record keeps the fields of the labels, and each field and cell is cut
 abbrev pub cut_step : CType-F (Value → Value) → Value → Value
-cut_step (CType-F.Record gs) v = cut_record gs v (out-Value v)
-cut_step (CType-F.Table P f) v = cut_table f v (out-Value v)
+cut_step (CType-F.Record gs) v = option_map_or
+    (λ fs. record_value (filter_map (λ g. option_map (λ u. (g.0, g.1 u)) (field_of g.0 fs)) gs)) (fields_in (out-Value v)) v
+cut_step (CType-F.Table P f) v =
+    option_map_or (λ es. table_value (map (λ e. (e.0, f e.1)) es)) (entries_in (out-Value v)) v
 cut_step d v = v
 
 -- a value cut to the labels of a type

@@ -16,8 +16,8 @@ use Rattle.gft_syntax.specs.declared.term.Term.{Term}
 use Rattle.gft_syntax.specs.declared.term.Term.TheOpen as Term-F
 use Rattle.gft_model.specs.ConcreteTypes.{is_finite, count_of}
 use Rattle.gft_model.specs.Items.{Item, parameter_type, oper, alternative}
-use Rattle.gft_model.specs.Matching.{same_whole}
-use Rattle.gft_model.specs.TypeForms.{FieldTypes, form, str_type, number_type, record_type, table_type, functions, sort_type, sort_param, tuple_fields}
+use Rattle.gft_model.specs.Matching.{same_whole, tuple_fields}
+use Rattle.gft_model.specs.TypeForms.{FieldTypes, form, str_type, number_type, record_type, table_type, functions, sort_type, sort_param}
 
 -- a type of data: no function type. Functions stand nowhere else but in opers and what they give
 abbrev pub IsData : CType → Type 0
@@ -81,7 +81,7 @@ module _ (items : List Item) where
           IsType e (table_type P V)
       function_from : {e a b xs p A B : _} → form e ≡ Term-F.Arrow xs a b p → IsType a A → IsData A → IsType b B →
           IsType e (functions (for_each xs A) B)
-      pair_of : {e a b p Ts : _} → form e ≡ Term-F.Pair a b p → AreFactors e Ts → IsType e (record_type (tuple_fields 0 Ts))
+      pair_of : {e a b p Ts : _} → form e ≡ Term-F.Pair a b p → AreFactors e Ts → IsType e (record_type (tuple_fields Ts))
       parameters_named : {e w p T : _} → form e ≡ Term-F.Var (WholeName w) p → IsParameter w T → count_of T ≤ most_values →
           IsType e T
       oper_named : {e D d w : _} (k : ℕ) {p S T : _} → form e ≡ Term-F.Var (WholeName w) p →
