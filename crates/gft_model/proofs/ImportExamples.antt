@@ -69,10 +69,7 @@ module _ (files : Files) (lacks : get files no_gf ≡ None) where
       (r ≡ missing_file) ⊎ Earlier (0 ∷ []) missing_file m r
   unfolding outcome
   only_fault m r (Import.in_loading {s = s} l) = let e = only_outcome l in inl (cc)
-  only_fault m r (Import.in_module l a b) = absurd (not_loaded l)
-  only_fault m r (Import.too_many_categories l a b c d) = absurd (not_loaded l)
-  only_fault m r (Import.in_language l a b c) = absurd (not_loaded l)
-  only_fault m r (Import.abstracts_differ i l a b c d e) = absurd (not_loaded l)
+  only_fault m r (Import.once_loaded l b) = absurd (not_loaded l)
 
   pub first_is_missing : IsFirst (Import.BreaksImport files (no_gf ∷ [])) missing_file
   unfolding outcome

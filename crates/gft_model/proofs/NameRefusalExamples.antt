@@ -1,5 +1,5 @@
 -- A worked example of a name that two opened modules give: the mk of AmbEng is ambiguous, and means something.
-use Rattle.std.proofs.Common.{◌≡◌, ap, sym, ◌∙◌, refl, ℕ, zero, suc, true, false, Bool, List, [], ◌∷◌, length, Some, None, subst, arith}
+use Rattle.std.proofs.Common.{◌≡◌, ap, sym, ◌∙◌, refl, ℕ, zero, suc, true, false, Bool, List, [], ◌∷◌, ◌++◌, length, Some, None, subst, arith}
 use Rattle.std.specs.Prelude.{codes, bytes_eq, Contains, slice_get}
 use Rattle.gft_core.specs.declared.place.Place.{Place}
 use Rattle.gft_rules.specs.Rules.{code_of}
@@ -14,13 +14,15 @@ use Rattle.gft_syntax.specs.declared.module.Rest.TheVariants.{Own}
 use Rattle.gft_syntax.specs.declared.reference.PlacedName.{PlacedName}
 use Rattle.gft_syntax.specs.declared.reference.Reference.TheVariants.{Written}
 use Rattle.gft_syntax.specs.declared.term.Local.TheVariants.{Value}
-use Rattle.gft_syntax.specs.declared.term.Term.{Term, roll-Term}
+use Rattle.gft_syntax.specs.declared.term.Term.{Term, roll-Term, out-Term}
 use Rattle.gft_syntax.specs.declared.term.Term.TheOpen as T
-use Rattle.gft_syntax.specs.declared.term.Term.TheFolds.{para-roll-Term, map-Term}
 use Rattle.gft_syntax.specs.declared.term.Term.TheViews.{out-roll-Term}
-use Rattle.gft_model.specs.Modules.{Is, Has, declares, inherits, keeps, instantiates, HasNameable, from_opened, Declared, own, own_text, module_of, inherited_of, judgements_of, declared_names}
+use Rattle.gft_model.specs.Modules.{Is, Has, declares, inherits, keeps, instantiates, HasNameable, from_opened, Declared, own, own_text, module_of, inherited_of, judgements_of, opened_of, declared_names}
 use Rattle.gft_model.specs.NameFaults
-use Rattle.gft_model.specs.Refusals.{refusal, sooner, later_on}
+use Rattle.gft_model.specs.HeaderFaults.{Clash}
+use Rattle.gft_model.specs.Refusals.{refusal, sooner, later_on, name_at}
+use Rattle.gft_model.specs.Import.{BreaksModule, in_names}
+use Rattle.gft_syntax.specs.Parts.{parts, term_under}
 
 abbrev here : ℕ → ℕ → Place
 here line col = record { file = 0; line = line; col = col }
@@ -91,59 +93,66 @@ module _ (t e : Term) where
   not_had d (keeps is f h w u o) = let same = ap (λ m. m.header) (is_amb_eng is) in cc
   not_had d (instantiates is f l h) = let same = ap (λ m. m.rest) (is_amb_eng is) in cc
 
-  sites-roll : (constructors : List ℕ → Bool) (d : T.Term-F Term) (xs : List (List ℕ)) → NameFaults.sites_in constructors (roll-Term d) xs
-      ≡ NameFaults.sites_step constructors (map-Term Term (Term × NameFaults.Sites) (λ f. (f, NameFaults.sites_in constructors f)) d) xs
-  sites-roll constructors d xs = ap (λ (f : NameFaults.Sites). f xs) (para-roll-Term NameFaults.Sites (NameFaults.sites_step constructors) d)
+  no_name : {e : Term} {d : T.Term-F Term} → out-Term e ≡ d → ((q : Term) (x : List ℕ) (p : Place) → d ≡ T.Proj q x p → ⊥) →
+      ((f a : Term) (p : Place) → d ≡ T.App f a p → ⊥) → NameFaults.IsName e → ⊥
+  no_name h no_dot no_argument (NameFaults.qualified {q} {x} {a} e f) = no_dot q x a (sym h ∙ e)
+  no_name h no_dot no_argument (NameFaults.of_predef {q} {x} {a} e f g) = no_dot q x a (sym h ∙ e)
+  no_name h no_dot no_argument (NameFaults.of_ints {f} {a} {place} e g i) = no_argument f a place (sym h ∙ e)
 
-  only_site : (constructors : List ℕ → Bool) → NameFaults.sites_of constructors use_of_mk ≡ NameFaults.a_name mk (here 3 16) ∷ []
-  only_site constructors = simp sites-roll
+  -- the mk of the record stands where no variable is bound
+  mk_within : (is_constructor : List ℕ → Bool) → NameFaults.Within mods amb_eng is_constructor [] false (roll-Term (T.Var (Written mk) (here 3 16)))
+  mk_within is_constructor =
+      NameFaults.in_term (NameFaults.in_judgement {j = use_of_mk} (1, omega arith, refl) (0, omega arith, refl))
+      (no_name (out-roll-Term _) (λ q x p f. cc) (λ f a p g. cc))
+      (subst (λ d. Contains (parts d) (term_under [] (roll-Term (T.Var (Written mk) (here 3 16))))) (sym (out-roll-Term _)) (0, omega arith, refl))
 
-  two_give : NameFaults.TwoGive mods amb_eng None mk (Plain (named 31 (codes "R1"))) (Plain (named 35 (codes "R2")))
-  two_give = record {
-    looks_at_one = NameFaults.for_bare (0, omega arith, refl) (λ d h. not_had d h.has);
-    looks_at_other = NameFaults.for_bare (1, omega arith, refl) (λ d h. not_had d h.has);
-    in_order = later_on (sooner (omega arith));
-    one = own (codes "R1") 0;
-    other = own (codes "R2") 0;
-    one_has = mk_of (codes "R1") refl;
-    other_has = mk_of (codes "R2") refl;
-    differ = λ q. let wrong : true ≡ false = ap (λ d. bytes_eq (module_of d) (codes "R1")) q in cc;
-  }
+  used : (is_constructor : List ℕ → Bool) → NameFaults.Uses mods amb_eng is_constructor None (name_at mk (here 3 16))
+  used is_constructor = NameFaults.alone (mk_within is_constructor) (out-roll-Term _) refl
 
-  used : (constructors : List ℕ → Bool) → NameFaults.Uses mods amb_eng constructors use_of_mk None mk (here 3 16)
-  used constructors = NameFaults.alone (subst (λ ss. Contains ss (NameFaults.a_name mk (here 3 16))) (sym (only_site constructors)) (0, omega arith, refl))
+  mk_clash : Clash (NameFaults.Gives mods amb_eng mk None) (named 31 (codes "R1")) (named 35 (codes "R2"))
+  mk_clash = (
+    own (codes "R1") 0, own (codes "R2") 0,
+    NameFaults.for_bare (0, omega arith, refl) (λ d h. not_had d h.has) (mk_of (codes "R1") refl),
+    NameFaults.for_bare (1, omega arith, refl) (λ d h. not_had d h.has) (mk_of (codes "R2") refl),
+    λ q. let wrong : true ≡ false = ap (λ d. bytes_eq (module_of d) (codes "R1")) q in cc,
+    later_on (sooner (omega arith)),
+  )
 
   -- 3:16, with mk, R1, R2
-  pub mk_is_ambiguous : (constructors : List ℕ → Bool) → NameFaults.BreaksNames mods amb_eng constructors
-      (3 ∷ 16 ∷ code_of R.Ambiguous ∷ 1 ∷ 35 ∷ 1 ∷ 31 ∷ []) (refusal R.Ambiguous (here 3 16) (mk ∷ codes "R1" ∷ codes "R2" ∷ []))
-  mk_is_ambiguous constructors = NameFaults.in_judgement (1, omega arith, refl) (NameFaults.ambiguous_use (used constructors) two_give)
+  pub mk_is_ambiguous : (named_source : Bool) (is_constructor : List ℕ → Bool) → NameFaults.AreConstructors mods amb_eng is_constructor →
+      BreaksModule mods named_source amb_eng (2 ∷ 3 ∷ 16 ∷ code_of R.Ambiguous ∷ 1 ∷ 35 ∷ 1 ∷ 31 ∷ [])
+      (refusal R.Ambiguous (here 3 16) (mk ∷ codes "R1" ∷ codes "R2" ∷ []))
+  mk_is_ambiguous named_source is_constructor are =
+      in_names is_constructor are (NameFaults.ambiguous_use (used is_constructor) mk_clash)
 
   -- it is not unknown: the rule that a name means nothing is not broken there
-  pub mk_means_something : NameFaults.Means mods amb_eng None mk
-  mk_means_something =
-      (own (codes "R1") 0, NameFaults.bare_meaning (from_opened refl (λ f h. not_had f h.has) (0, omega arith, refl) (mk_of (codes "R1") refl)))
+  pub mk_means_something : NameFaults.Meaning mods amb_eng None mk (own (codes "R1") 0)
+  mk_means_something = from_opened refl (λ f h. not_had f h.has) (0, omega arith, refl) (mk_of (codes "R1") refl)
 
-  -- lin b = (Nope).x: what is before the dot is used at its own place, after the parenthesis
+  -- in a module of the same names with one more judgement, lin b = (Nope).x: what is before the dot is used at its own place,
+  -- after the parenthesis
   abbrev use_of_nope : Judgement
   use_of_nope =
       J.Lin (record { name = codes "b"; place = here 4 7 } ∷ []) []
       (roll-Term (T.Proj (roll-Term (T.Var (Written (codes "Nope")) (here 4 12))) (codes "x") (here 4 11)))
 
-  dotted_site : (constructors : List ℕ → Bool) → NameFaults.sites_of constructors use_of_nope
-      ≡ NameFaults.a_dotted_name (codes "Nope") (here 4 12) (codes "x") (here 4 11) ∷ []
-  dotted_site constructors = simp (sites-roll, out-roll-Term)
+  abbrev with_nope : Module
+  with_nope = record {
+    header = amb_eng.header;
+    rest = Own [] (record { opened = opened_of amb_eng; judgements = judgements_of amb_eng ++ use_of_nope ∷ [] });
+  }
 
-  has_dotted_site : (constructors : List ℕ → Bool) → Contains (NameFaults.sites_of constructors use_of_nope)
-      (NameFaults.a_dotted_name (codes "Nope") (here 4 12) (codes "x") (here 4 11))
-  has_dotted_site constructors =
-      subst (λ ss. Contains ss (NameFaults.a_dotted_name (codes "Nope") (here 4 12) (codes "x") (here 4 11))) (sym (dotted_site constructors))
-      (0, omega arith, refl)
+  dotted : (is_constructor : List ℕ → Bool) →
+      NameFaults.IsDotted mods with_nope is_constructor (name_at (codes "Nope") (here 4 12)) (name_at (codes "x") (here 4 11))
+  dotted is_constructor = (
+    [], false, _, _, NameFaults.in_judgement {j = use_of_nope} (2, omega arith, refl) (0, omega arith, refl), out-roll-Term _, out-roll-Term _, refl,
+  )
 
-  pub used_alone : (constructors : List ℕ → Bool) → ¬ (NameFaults.Opens mods amb_eng (codes "Nope")) →
-      NameFaults.Uses mods amb_eng constructors use_of_nope None (codes "Nope") (here 4 12)
-  used_alone constructors not_opened = NameFaults.before_dot (has_dotted_site constructors) not_opened
+  pub used_alone : (is_constructor : List ℕ → Bool) → ¬ (NameFaults.Opens mods with_nope (codes "Nope")) →
+      NameFaults.Uses mods with_nope is_constructor None (name_at (codes "Nope") (here 4 12))
+  used_alone is_constructor not_opened = NameFaults.before_dot (dotted is_constructor) not_opened
 
   -- where Nope is a module, it is the name x at the parenthesis
-  pub used_qualified : (constructors : List ℕ → Bool) → NameFaults.Opens mods amb_eng (codes "Nope") →
-      NameFaults.Uses mods amb_eng constructors use_of_nope (Some (codes "Nope")) (codes "x") (here 4 11)
-  used_qualified constructors opened = NameFaults.qualified_use (has_dotted_site constructors) opened
+  pub used_qualified : (is_constructor : List ℕ → Bool) → NameFaults.Opens mods with_nope (codes "Nope") →
+      NameFaults.Uses mods with_nope is_constructor (Some (codes "Nope")) (name_at (codes "x") (here 4 11))
+  used_qualified is_constructor opened = NameFaults.after_dot (dotted is_constructor) opened

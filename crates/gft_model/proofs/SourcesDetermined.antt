@@ -1,24 +1,22 @@
 -- The imports of the language are determined.
-use Rattle.std.proofs.Common.{◌≡◌, sym, ap, ◌∙◌, subst, ℕ, List, [], ◌∷◌, Some}
+use Rattle.std.proofs.Common.{◌≡◌, sym, ap, ◌∙◌, subst, ℕ, List, [], ◌∷◌, Some, true, false}
 use Rattle.std.specs.Prelude.{map}
 use Rattle.gft_io.specs.Outside.{Files}
 use Rattle.gft_pmcfg.specs.declared.concrete.Concrete.{Concrete}
 use Rattle.gft_pmcfg.specs.declared.signature.Abstract.{Abstract as AbstractSyntax}
 use Rattle.gft_syntax.specs.declared.flat.Flat.{Flat}
-use Rattle.gft_syntax.specs.declared.module.Header.TheVariants.{Abstract}
 use Rattle.gft_syntax.specs.declared.module.Module.{Module}
 use Rattle.gft_syntax.specs.declared.reference.PlacedName.{PlacedName}
 use Rattle.gft_model.specs.Commands.{EndsIn, source_ending}
 use Rattle.gft_model.specs.AbstractParts.{IsAbstractPart}
-use Rattle.gft_model.specs.Flats.{AreListed, HasOfPart, categories, functions}
-use Rattle.gft_model.specs.Import.{BreaksImport, sources, AbstractOf, itself, of_concrete, HasPart, of_its_source, of_portable, HasLanguage, of_module, GivesPart, abstract_part, with_language, LeftOut, IsView, AreTypings}
+use Rattle.gft_model.specs.Import.{BreaksImport, sources, HasPart, of_its_source, of_portable, HasLanguage, of_module, GivesPart, abstract_part, with_language, LeftOut, IsView, AreTypings}
 use Rattle.gft_model.specs.Loading.{Loading, base_of, loaded, LoadsNamed, nothing_loaded}
-use Rattle.gft_model.specs.Modules.{module_named, judgements_of}
+use Rattle.gft_model.specs.Modules.{is_abstract, module_named, judgements_of}
 use Rattle.gft_model.specs.States.{Loaded, of_file, of_source, Gives, source, portable}
 use Rattle.gft_model.proofs.AbstractLaws.{abstract_once}
 use Rattle.gft_model.proofs.AnswerLaws.{IsDetermined}
 use Rattle.gft_model.proofs.CompiledLaws.{concrete_once}
-use Rattle.gft_model.proofs.FlatLaws.{listed_once, flat_once, typings_once}
+use Rattle.gft_model.proofs.FlatLaws.{flat_once, typings_once}
 use Rattle.gft_model.proofs.LoadingLaws.{endings_apart, named_once, one_list_of_files}
 use Rattle.gft_model.proofs.NoFlaw.{reads_once}
 use Rattle.gft_model.proofs.RefusalOrder.{first-once}
@@ -28,31 +26,21 @@ loaded_once : {files : Files} {names : List (List ℕ)} {s t : Loading} → Load
     → LoadsNamed files nothing_loaded names (loaded t) → s ≡ t
 loaded_once x y = let h = named_once x y in cc
 
--- the abstract module and the language of a source
-abstract_name_once : {mods : List Module} {file A B : List ℕ} → AbstractOf mods file A → AbstractOf mods file B → A ≡ B
-abstract_name_once (itself {m} {n} e h) (itself {m = k} {n = o} f i) =
-    let same : m ≡ k = cc in let header = ap (λ (l : Module). l.header) same in let names : n ≡ o = cc in ap (λ p. p.name) names
-abstract_name_once (itself {m} e h) (of_concrete {m = k} f i) =
-    let same : m ≡ k = cc in let header = ap (λ (l : Module). l.header) same in cc
-abstract_name_once (of_concrete {m} e h) (itself {m = k} f i) =
-    let same : m ≡ k = cc in let header = ap (λ (l : Module). l.header) same in cc
-abstract_name_once (of_concrete {m} {a = a} e h) (of_concrete {m = k} {a = b} f i) =
-    let same : m ≡ k = cc in let header = ap (λ (l : Module). l.header) same in let names : a ≡ b = cc in ap (λ p. p.name) names
-
+-- the abstract syntax and the language of a source
 has_part_once : {files : Files} {mods : List Module} {file : List ℕ} {a b : AbstractSyntax} → EndsIn source_ending file
     → HasPart files mods file a → HasPart files mods file b → a ≡ b
-has_part_once {mods = mods} {a = a} {b = b} ends (of_its_source {A} {m} {cats} {funs} x e c d p) (of_its_source {A = B} {m =
-    k} {cats = ds} {funs = gs} y f g h q) =
-    let names = abstract_name_once x y in
-    let there = ap (module_named mods) names in
+has_part_once {mods = mods} {a = a} {b = b} ends (of_its_source {m} {A} {abstract} {flat} e v h i p)
+    (of_its_source {m = k} {A = B} {abstract = other} {flat = view} f w j l q) =
     let same : m ≡ k = cc in
-    let cats_same = listed_once c (subst (λ N. AreListed ds (HasOfPart mods categories N)) (sym names) g) in
-    let funs_same = listed_once d (subst (λ N. AreListed gs (HasOfPart mods functions N)) (sym names) h) in
-    abstract_once a b p (subst (λ es. IsAbstractPart cats es (LeftOut mods es) b A (judgements_of m)) (sym funs_same)
-    (subst (λ es. IsAbstractPart es gs (LeftOut mods gs) b A (judgements_of m)) (sym cats_same)
-    (subst (λ n. IsAbstractPart ds gs (LeftOut mods gs) b A (judgements_of n)) (sym same)
-    (subst (λ N. IsAbstractPart ds gs (LeftOut mods gs) b N (judgements_of k)) (sym names) q))))
-has_part_once ends (of_its_source x e c d p) (of_portable i j k) = absurd (endings_apart ends i)
+    let flats = flat_once mods _ flat view v (subst (λ n. IsView mods n view) (sym same) w) in
+    let name : Some A ≡ Some B = sym h ∙ ap (λ (g : Flat). g.name) flats ∙ j in
+    let names : A ≡ B = cc in
+    let found : Some abstract ≡ Some other = sym i ∙ ap (module_named mods) names ∙ l in
+    let there : abstract ≡ other = cc in
+    abstract_once a b p (subst (λ (g : Flat). IsAbstractPart g.cats g.funs (LeftOut mods g.funs) b A (judgements_of abstract)) (sym flats)
+    (subst (λ n. IsAbstractPart view.cats view.funs (LeftOut mods view.funs) b A (judgements_of n)) (sym there)
+    (subst (λ N. IsAbstractPart view.cats view.funs (LeftOut mods view.funs) b N (judgements_of other)) (sym names) q)))
+has_part_once ends (of_its_source e v h i p) (of_portable j k l) = absurd (endings_apart ends j)
 has_part_once ends (of_portable i j k) y = absurd (endings_apart ends i)
 
 language_once : {mods : List Module} {file L M : List ℕ} {f g : Flat} → HasLanguage mods file L f
@@ -66,11 +54,11 @@ language_once {mods = mods} (of_module {m} {n} {flat = flat} {typings = ts} e h 
     let typings = typings_once flat ts us t (subst (λ x. AreTypings x us) (sym flats) u) in
     (ap (λ p. p.name) names, λ j. record (flats j) { typed = typings j })
 
-no_language : {mods : List Module} {file L : List ℕ} {m : Module} {n : PlacedName} {f : Flat}
-    → module_named mods (base_of file) ≡ Some m
-    → m.header ≡ Abstract n → HasLanguage mods file L f → ⊥
-no_language {m = m} e h (of_module {m = k} f i v t) = let same : m ≡ k = cc in
-    let header = ap (λ (l : Module). l.header) same in cc
+no_language : {mods : List Module} {file L : List ℕ} {m : Module} {f : Flat}
+    → module_named mods (base_of file) ≡ Some m → is_abstract m.header ≡ true → HasLanguage mods file L f → ⊥
+no_language {m = m} e h (of_module {m = k} {n} {a} f i v t) =
+    let same : m ≡ k = cc in
+    let wrong : true ≡ false = sym h ∙ ap (λ (l : Module). is_abstract l.header) same ∙ ap is_abstract i in cc
 
 source_part_once : {files : Files} {names : List (List ℕ)} {name : List ℕ} {p q : Loaded} → EndsIn source_ending name
     → GivesPart files names name p → GivesPart files names name q → p ≡ q

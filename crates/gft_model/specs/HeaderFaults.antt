@@ -1,10 +1,12 @@
 -- Faults of a module's header, and of names that it declares twice.
-use Rattle.std.specs.Prelude.{◌≡◌, ℕ, List, [], ◌∷◌, ◌++◌, map, flat_map, length, Bool, true, false, not, ◌⊎◌, codes, Contains, Option, ◌≢◌}
+use Rattle.std.specs.Prelude.{◌≡◌, ℕ, List, [], ◌∷◌, ◌++◌, map, flat_map, length, Bool, true, false, not, ◌&&◌, ◌||◌, ◌⊎◌, codes, Contains, Option, Some, None, ◌≢◌, if◌then◌else◌}
 use Rattle.gft_rules.specs.declared.refusal.Refusal.{Refusal}
+use Rattle.gft_rules.specs.declared.rule.Rule.{Rule}
 use Rattle.gft_rules.specs.declared.rule.Rule.TheVariants as R
 use Rattle.gft_syntax.specs.declared.judgement.Judgement.{Judgement}
 use Rattle.gft_syntax.specs.declared.judgement.Judgement.TheVariants as J
 use Rattle.gft_syntax.specs.declared.judgement.Keyword.{Keyword}
+use Rattle.gft_syntax.specs.declared.judgement.Keyword.TheVariants as K
 use Rattle.gft_syntax.specs.declared.module.Body.{Body}
 use Rattle.gft_syntax.specs.declared.module.Header.{Header}
 use Rattle.gft_syntax.specs.declared.module.Header.TheVariants.{Abstract, Resource, Interface, Instance, Concrete, Incomplete}
@@ -14,50 +16,42 @@ use Rattle.gft_syntax.specs.declared.module.Module.{Module}
 use Rattle.gft_syntax.specs.declared.module.Rest.TheVariants.{With}
 use Rattle.gft_syntax.specs.declared.module.Substitution.{Substitution}
 use Rattle.gft_syntax.specs.declared.reference.PlacedName.{PlacedName}
-use Rattle.gft_model.specs.Modules.{is_abstract, is_interface, is_incomplete, is_concrete, placed_names, sort_of, restricted_of, inherited_at, opened_at, Is, Has, HasNameable, Writes, OwnName, OpensAs, Declared, copy, header_name, inherited_of, inherited_name, lets_through, judgements_of, opened_of, is_undefined, main_name}
-use Rattle.gft_model.specs.Refusals.{Moment, Before, refusal, place_moment, name_moment}
+use Rattle.gft_model.specs.JudgementTyping.{list_name}
+use Rattle.gft_model.specs.Modules.{is_abstract, is_interface, is_incomplete, is_concrete, placed_names, sort_of, restricted_of, inherited_at, opened_at, Is, Has, HasNameable, Writes, OwnName, OpensAs, Declared, copy, header_name, header_mentions, inherited_of, inherited_name, lets_through, judgements_of, opened_of, is_undefined, main_name}
+use Rattle.gft_model.specs.Refusals.{Moment, Before, place_moment, name_at, at_name}
+
+-- an instance is a resource too
+abbrev pub is_resource : Header → Bool
+is_resource (Resource n) = true
+is_resource (Instance n i) = true
+is_resource h = false
 
 -- the first may inherit from the second, and may open it
 abbrev pub may_inherit : Header → Header → Bool
-may_inherit (Abstract m) (Abstract n) = true
-may_inherit (Interface m) (Interface n) = true
-may_inherit (Resource m) (Resource n) = true
-may_inherit (Resource m) (Instance n i) = true
-may_inherit (Instance m i) (Resource n) = true
-may_inherit (Instance m i) (Instance n k) = true
-may_inherit (Concrete m a) (Concrete n b) = true
-may_inherit (Incomplete m a) (Concrete n b) = true
-may_inherit (Incomplete m a) (Incomplete n b) = true
-may_inherit g h = false
+may_inherit (Abstract n) h = is_abstract h
+may_inherit (Resource n) h = is_resource h
+may_inherit (Instance n i) h = is_resource h
+may_inherit (Interface n) h = is_interface h
+may_inherit (Concrete n a) h = is_concrete h && not (is_incomplete h)
+may_inherit (Incomplete n a) h = is_concrete h
 
 abbrev pub may_open : Header → Header → Bool
-may_open g (Resource n) = true
-may_open g (Instance n i) = true
-may_open (Interface m) (Interface n) = true
-may_open (Incomplete m a) (Interface n) = true
-may_open g h = false
+may_open g h = is_resource h || ((is_interface g || is_incomplete g) && is_interface h)
 
--- the judgement may stand in a module of that kind
+-- the judgement may stand in a module of that kind: flags in any, linearizations in concrete modules, what has
+-- no definition in interfaces, and other opers and parameter types in any module but abstract ones
 abbrev pub may_stand : Judgement → Header → Bool
+may_stand (J.Flag n v) h = true
 may_stand (J.Cat n cs) h = is_abstract h
 may_stand (J.ListCat n r k place) h = is_abstract h
 may_stand (J.Fun ns T) h = is_abstract h
-may_stand (J.Flag n v) h = true
-may_stand (J.Lincat ns T) h = is_concrete h
-may_stand (J.Lin ns xs e) h = is_concrete h
-may_stand (J.Lindef ns xs e) h = is_concrete h
-may_stand (J.Linref ns xs e) h = is_concrete h
-may_stand (J.ParamName n) h = is_interface h
-may_stand (J.Param n cs) h = not (is_abstract h)
-may_stand (J.OperType ns T) h = is_interface h
-may_stand (J.OperTyped ns T d) h = not (is_abstract h)
-may_stand (J.Oper ns xs d) h = not (is_abstract h)
+may_stand j h = elim (sort_of j) [ Some k ↦ is_concrete h | None ↦ if is_undefined j then is_interface h else not (is_abstract h) ]
 
 -- what a module declares, in order, each name with the sort of its judgement
 abbrev pub own_names : Module → List (Option Keyword × PlacedName)
 own_names m = flat_map (λ j. map (λ n. (sort_of j, n)) (placed_names j)) (judgements_of m)
 
--- the names that a restriction lists
+-- the names of a restriction
 abbrev pub listed_names : Inherited → List PlacedName
 listed_names (Only n xs) = xs
 listed_names (Except n xs) = xs
@@ -69,10 +63,14 @@ IsWith m f ss = (hs : List Inherited) × (b : Option Body) × (m.rest ≡ With h
 
 -- a module that a header names, and which kinds are allowed there
 pub data Wants (m : Module) : PlacedName → (Header → Bool) → Type 0 where
-  an_abstract : {n a : _} → (m.header ≡ Concrete n a) ⊎ (m.header ≡ Incomplete n a) → Wants m a is_abstract
-  an_interface : {n i : _} → m.header ≡ Instance n i → Wants m i is_interface
+  after_of : {n : _} → Contains (header_mentions m.header) n → Wants m n (if is_concrete m.header then is_abstract else is_interface)
   inherited : {h : _} → Contains (inherited_of m.rest) h → Wants m (inherited_at h) (may_inherit m.header)
   opened : {o : _} → Contains (opened_of m) o → Wants m (opened_at o) (may_open m.header)
+
+-- two modules, in header order, give two judgements
+abbrev pub Clash : (PlacedName → Declared → Type 0) → PlacedName → PlacedName → Type 0
+Clash Gives earlier later = (d : Declared) × (e : Declared) × Gives earlier d × Gives later e × (d ≢ e)
+    × Before (place_moment earlier.place) (place_moment later.place)
 
 module _ (mods : List Module) where
   -- the interfaces that an incomplete module leaves open: those that it opens, and those of the incomplete
@@ -89,75 +87,57 @@ module _ (mods : List Module) where
 
   -- what a module that the header names gives under a name: one that is inherited from, the functor of a
   -- with, or the interface of an instance, whose judgements the instance keeps
-  pub data Gives (m : Module) : PlacedName → List ℕ → Declared → Type 0 where
-    inherited_gives : {h x d : _} → Contains (inherited_of m.rest) h → lets_through h x ≡ true → Has mods (inherited_name h) x d →
-        Gives m (inherited_at h) x d
-    functor_gives : {f ss x d : _} → IsWith m f ss → lets_through f x ≡ true → Has mods (inherited_name f) x d →
-        Gives m (inherited_at f) x (copy (header_name m.header).name d)
-    interface_gives : {n : _} {i : PlacedName} {x d j : _} → m.header ≡ Instance n i → Has mods i.name x d → Writes mods d j →
-        is_undefined j ≡ false → ¬ (OwnName mods m (main_name j x)) → Gives m i x (copy (header_name m.header).name d)
+  pub data Gives (m : Module) (x : List ℕ) : PlacedName → Declared → Type 0 where
+    inherited_gives : {h d : _} → Contains (inherited_of m.rest) h → lets_through h x ≡ true → Has mods (inherited_name h) x d →
+        Gives m x (inherited_at h) d
+    functor_gives : {f ss d : _} → IsWith m f ss → lets_through f x ≡ true → Has mods (inherited_name f) x d →
+        Gives m x (inherited_at f) (copy (header_name m.header).name d)
+    interface_gives : {n i : PlacedName} {d j : _} → m.header ≡ Instance n i → Has mods i.name x d → Writes mods d j →
+        is_undefined j ≡ false → ¬ (OwnName mods m (main_name j x)) → Gives m x i (copy n.name d)
 
-  -- two different judgements of one sort under a name, from modules in header order
-  pub record Clash (m : Module) (x : List ℕ) (earlier later : PlacedName) : Type 0 where
-    pub one : Declared
-    pub other : Declared
-    pub first_gives : Gives m earlier x one
-    pub second_gives : Gives m later x other
-    pub differ : one ≢ other
-    pub text : Judgement
-    pub other_text : Judgement
-    pub writes : Writes mods one text
-    pub writes_other : Writes mods other other_text
-    pub one_sort : sort_of text ≡ sort_of other_text
-    pub in_order : Before (place_moment earlier.place) (place_moment later.place)
+  -- a judgement of that sort
+  abbrev pub GivesOf : Option Keyword → Module → List ℕ → PlacedName → Declared → Type 0
+  GivesOf k m x n d = Gives m x n d × ((j : Judgement) × Writes mods d j × (sort_of j ≡ k))
 
-  -- what is broken in a header, by number and then by place; named says whether it is a named source
-  pub data BreaksHeader (named : Bool) (m : Module) : Moment → Refusal → Type 0 where
+  -- which header rules are broken, at which name, and with which modules beside; named says whether the module is a
+  -- named source
+  pub data BreaksHeader (named : Bool) (m : Module) : Rule → PlacedName → List PlacedName → Type 0 where
     module_of_wrong_kind : {n : PlacedName} {allowed : _} {o : Module} → Wants m n allowed → Is mods n.name o →
-        allowed o.header ≡ false → BreaksHeader named m (16 ∷ place_moment n.place) (refusal R.WrongKind n.place (n.name ∷ []))
+        allowed o.header ≡ false → BreaksHeader named m R.WrongKind n []
     functor_of_no_concrete : {f ss : _} {o : Module} → IsWith m f ss → is_concrete m.header ≡ false →
-        Is mods (inherited_name f) o → is_incomplete o.header ≡ true →
-        BreaksHeader named m (16 ∷ place_moment (inherited_at f).place)
-        (refusal R.WrongKind (inherited_at f).place (inherited_name f ∷ []))
-    judgement_of_wrong_kind : {j : _} {n : PlacedName} {ns : _} → Contains (judgements_of m) j → may_stand j m.header ≡ false →
-        placed_names j ≡ n ∷ ns → BreaksHeader named m (16 ∷ place_moment n.place) (refusal R.WrongKind n.place (n.name ∷ []))
-    source_of_wrong_kind : named ≡ true → is_abstract m.header ≡ false → ((n a : PlacedName) → ¬ (m.header ≡ Concrete n a)) →
-        BreaksHeader named m (16 ∷ place_moment (header_name m.header).place)
-        (refusal R.WrongKind (header_name m.header).place ((header_name m.header).name ∷ []))
+        Is mods (inherited_name f) o → is_incomplete o.header ≡ true → BreaksHeader named m R.WrongKind (inherited_at f) []
+    judgement_of_wrong_kind : {j n ns : _} → Contains (judgements_of m) j → may_stand j m.header ≡ false →
+        placed_names j ≡ n ∷ ns → BreaksHeader named m R.WrongKind n []
+    source_of_wrong_kind : named ≡ true → is_abstract m.header ≡ false →
+        (is_concrete m.header ≡ false) ⊎ (is_incomplete m.header ≡ true) →
+        BreaksHeader named m R.WrongKind (header_name m.header) []
     restricts_unknown : {h : _} {n : PlacedName} → Contains (restricted_of m.rest) h → Contains (listed_names h) n →
         ((d : Declared) → ¬ (Has mods (inherited_name h) n.name d)) →
-        BreaksHeader named m (17 ∷ place_moment n.place) (refusal R.RestrictUnknown n.place (n.name ∷ []))
-    inherited_clash : {x : _} {i n : PlacedName} → Clash m x i n →
-        BreaksHeader named m (18 ∷ place_moment n.place ++ name_moment x ++ place_moment i.place)
-        (refusal R.InheritClash n.place (x ∷ i.name ∷ n.name ∷ []))
-    own_clash : {j k : _} {n i : PlacedName} {d : _} → Contains (judgements_of m) j → Contains (placed_names j) n →
-        Gives m i n.name d → Writes mods d k → sort_of k ≡ sort_of j →
-        BreaksHeader named m (18 ∷ place_moment n.place ++ name_moment n.name ++ place_moment i.place)
-        (refusal R.InheritClash n.place (n.name ∷ i.name ∷ (header_name m.header).name ∷ []))
+        BreaksHeader named m R.RestrictUnknown n []
+    inherited_clash : {k x i : _} {n : PlacedName} → Clash (GivesOf k m x) i n →
+        BreaksHeader named m R.InheritClash (name_at x n.place) (i ∷ n ∷ [])
+    own_clash : {j : _} {n : PlacedName} {i d : _} → Contains (judgements_of m) j → Contains (placed_names j) n →
+        GivesOf (sort_of j) m n.name i d → BreaksHeader named m R.InheritClash n (i ∷ header_name m.header ∷ [])
     not_incomplete : {f ss : _} {o : Module} → IsWith m f ss → Is mods (inherited_name f) o → is_incomplete o.header ≡ false →
-        BreaksHeader named m (19 ∷ place_moment (inherited_at f).place)
-        (refusal R.NotIncomplete (inherited_at f).place (inherited_name f ∷ []))
+        BreaksHeader named m R.NotIncomplete (inherited_at f) []
     without_substitution : {f ss I : _} → IsWith m f ss → Parameter (inherited_name f) I →
         ((s : Substitution) → Contains ss s → s.interface.name ≢ I) →
-        BreaksHeader named m (20 ∷ place_moment (inherited_at f).place ++ name_moment I)
-        (refusal R.ParameterUnmatched (inherited_at f).place (I ∷ []))
+        BreaksHeader named m R.ParameterUnmatched (name_at I (inherited_at f).place) []
     no_parameter : {f ss : _} {s : Substitution} → IsWith m f ss → Contains ss s →
-        ¬ (Parameter (inherited_name f) s.interface.name) →
-        BreaksHeader named m (20 ∷ place_moment s.interface.place)
-        (refusal R.ParameterUnmatched s.interface.place (s.interface.name ∷ []))
+        ¬ (Parameter (inherited_name f) s.interface.name) → BreaksHeader named m R.ParameterUnmatched s.interface []
     no_instance : {f ss : _} {s : Substitution} → IsWith m f ss → Contains ss s →
-        ¬ (IsInstanceOf s.instance.name s.interface.name) →
-        BreaksHeader named m (20 ∷ place_moment s.instance.place)
-        (refusal R.ParameterUnmatched s.instance.place (s.instance.name ∷ []))
+        ¬ (IsInstanceOf s.instance.name s.interface.name) → BreaksHeader named m R.ParameterUnmatched s.instance []
     instance_lacks : {n i : PlacedName} {x d j : _} → m.header ≡ Instance n i → Has mods i.name x d → Writes mods d j →
         is_undefined j ≡ true → ((e : Declared) → ¬ (HasNameable mods n.name x e)) →
-        BreaksHeader named m (21 ∷ place_moment n.place ++ name_moment x) (refusal R.InstanceLacks n.place (x ∷ []))
+        BreaksHeader named m R.InstanceLacks (name_at x n.place) []
+
+-- a name that is built in
+abbrev pub IsBuiltIn : List ℕ → Type 0
+IsBuiltIn x = Contains (codes "Int" ∷ codes "String" ∷ []) x
 
 -- a name that is declared a second time, or is built in, in the order of the declarations
 pub data Redefines (m : Module) : Moment → Refusal → Type 0 where
-  declared_twice : (before after : List (Option Keyword × PlacedName)) {n o : _} → own_names m ≡ before ++ n ∷ after →
-      Contains before o → o.0 ≡ n.0 → o.1.name ≡ n.1.name →
-      Redefines m (length before ∷ []) (refusal R.Redefined n.1.place (n.1.name ∷ []))
-  is_built_in : (before after : List (Option Keyword × PlacedName)) (n : Option Keyword × PlacedName) →
-      own_names m ≡ before ++ n ∷ after → (n.1.name ≡ codes "Int") ⊎ (n.1.name ≡ codes "String") →
-      Redefines m (length before ∷ []) (refusal R.Redefined n.1.place (n.1.name ∷ []))
+  redefined : (before after : List (Option Keyword × PlacedName)) {k : _} {n : PlacedName} →
+      own_names m ≡ before ++ (k, n) ∷ after →
+      Contains {X = Option Keyword × List ℕ} (map (λ o. (o.0, o.1.name)) before) (k, n.name) ⊎ IsBuiltIn n.name →
+      Redefines m (length before ∷ []) (at_name R.Redefined n [])

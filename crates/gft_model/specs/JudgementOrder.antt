@@ -1,16 +1,16 @@
 -- The order in which the judgements of a module are typed.
-use Rattle.std.specs.Prelude.{◌≡◌, ℕ, suc, List, [], ◌∷◌, ◌++◌, map, flat_map, filter, Bool, true, false, ◌||◌, Contains, Option, Some, None, slice_get}
+use Rattle.std.specs.Prelude.{◌≡◌, ℕ, suc, List, [], ◌∷◌, ◌++◌, map, flat_map, filter, Bool, true, false, ◌||◌, Contains, Option, Some, None, ◌≢◌, slice_get}
 use Rattle.gft_syntax.specs.declared.flat.FlatJudgement.{FlatJudgement}
 use Rattle.gft_syntax.specs.declared.judgement.Judgement.{Judgement}
 use Rattle.gft_syntax.specs.declared.judgement.Judgement.TheVariants as J
 use Rattle.gft_syntax.specs.declared.judgement.Keyword.{Keyword}
 use Rattle.gft_syntax.specs.declared.judgement.Keyword.TheVariants as K
 use Rattle.gft_syntax.specs.declared.module.Module.{Module}
+use Rattle.gft_syntax.specs.declared.reference.PlacedName.{PlacedName}
 use Rattle.gft_syntax.specs.declared.reference.Whole.{Whole}
-use Rattle.gft_model.specs.Flats.{HasEntry}
+use Rattle.gft_model.specs.Flats.{IsOf, HasEntry}
 use Rattle.gft_model.specs.JudgementTyping.{list_name, Signature, signature_in}
 use Rattle.gft_model.specs.Modules.{is_incomplete, is_interface, sort_of, header_name, declared_names, main_name}
-use Rattle.gft_model.specs.NameFaults.{Lacks}
 use Rattle.gft_model.specs.Refusals.{Moment}
 use Rattle.gft_syntax.specs.Parts.{judgement_names}
 
@@ -61,22 +61,21 @@ typed_name j x = main_name j x
 
 module _ (mods : List Module) where
   -- a linearization whose name the abstract module lacks is ignored
-  abbrev pub Ignored : Option (List ℕ) → List ℕ → Judgement → Type 0
-  Ignored abstract x j =
-      (A : List ℕ) × (k : Keyword) × (abstract ≡ Some A) × (sort_of j ≡ Some k) × Lacks mods A k x
+  abbrev pub Ignored : List PlacedName → List ℕ → Judgement → Type 0
+  Ignored abstract x j = (sort_of j ≢ None) × (A : PlacedName) × Contains abstract A × ¬ (IsOf mods A.name x j)
 
   -- the judgements of a module that are typed, at their turns there
-  abbrev pub HasTyped : Option (List ℕ) → List ℕ → Moment → FlatJudgement → Type 0
+  abbrev pub HasTyped : List PlacedName → List ℕ → Moment → FlatJudgement → Type 0
   HasTyped abstract = HasEntry mods (λ x j. ¬ (Ignored abstract x j)) typed_name
 
   -- those that it does not inherit: copies and its own
-  abbrev pub HasNew : Option (List ℕ) → List ℕ → Moment → FlatJudgement → Type 0
+  abbrev pub HasNew : List PlacedName → List ℕ → Moment → FlatJudgement → Type 0
   HasNew abstract M at e = (k : ℕ) × (within : Moment) × (at ≡ suc k ∷ within) × HasTyped abstract M at e
 
   -- the judgements of interfaces and incomplete modules, which are typed where a judgement rests on them
   abbrev pub IsMet : Moment → FlatJudgement → Type 0
   IsMet at e = (i : ℕ) × (m : Module) × (within : Moment) × (at ≡ i ∷ within) × (slice_get mods i ≡ Some m)
-      × ((is_interface m.header || is_incomplete m.header) ≡ true) × HasNew None (header_name m.header).name within e
+      × ((is_interface m.header || is_incomplete m.header) ≡ true) × HasNew [] (header_name m.header).name within e
 
 -- inherited linearizations are typed again: lincats, lindefs, linrefs, then lins
 abbrev pub is_of : Keyword → Option Keyword → Bool

@@ -4,6 +4,7 @@ use Rattle.gft_core.specs.declared.place.Place.{Place}
 use Rattle.gft_rules.specs.Rules.{code_of}
 use Rattle.gft_rules.specs.declared.refusal.Refusal.{Refusal}
 use Rattle.gft_rules.specs.declared.rule.Rule.{Rule}
+use Rattle.gft_syntax.specs.declared.reference.PlacedName.{PlacedName}
 
 -- a moment of an import: its turn, its turn within that, and so on
 abbrev pub Moment : Type 0
@@ -29,6 +30,19 @@ refusal rule place names = record { rule = rule; place = Some place; names = nam
 
 abbrev pub placeless : Rule → List (List ℕ) → Refusal
 placeless rule names = record { rule = rule; place = None; names = names }
+
+-- a name at a place
+abbrev pub name_at : List ℕ → Place → PlacedName
+name_at x place = record { name = x; place = place }
+
+-- a refusal at a name, which it carries, and the modules that it carries beside
+abbrev pub at_name : Rule → PlacedName → List PlacedName → Refusal
+at_name rule n modules = refusal rule n.place (map (λ m. m.name) (n ∷ modules))
+
+-- of modules in header order the last counts most
+abbrev pub modules_moment : List PlacedName → Moment
+modules_moment [] = []
+modules_moment (m ∷ ms) = modules_moment ms ++ place_moment m.place
 
 -- which rules are broken: the moment, and the refusal
 abbrev pub Faults : Type 1
