@@ -18,7 +18,7 @@ use Rattle.gft_syntax.specs.declared.reference.Whole.{Whole}
 use Rattle.gft_syntax.specs.declared.term.Term.{Term, out-Term}
 use Rattle.gft_syntax.specs.declared.term.Term.TheOpen as T
 use Rattle.gft_syntax.specs.Terms.{Layer}
-use Rattle.gft_model.specs.AbstractFaults.{Indexed, Arguments, no_arguments, Declares, is_application, head_name, with_arguments_of, IsIndex, variable, number, text, application, AreIndices, no_index, one_index, ReadsType, indexed, built_in, ReadsContext, no_context, more_context, HasContext, its_context, of_a_list, ReadsFunction, takes, gives, HasSignature, its_type, of_list_function}
+use Rattle.gft_model.specs.AbstractFaults.{Indexed, without_indices, variables_of, is_head_part, Declares, head_name, IsIndex, variable, number, text, application, AreIndices, no_index, one_index, ReadsType, indexed, built_in, ReadsContext, no_context, more_context, HasContext, its_context, of_a_list, ReadsFunction, takes, gives, HasSignature, its_type, of_list_function}
 use Rattle.gft_model.specs.AbstractParts.{IsNumbered, IsSorted, IsCategory, IsFunction, IsAbstractPart}
 use Rattle.gft_model.specs.ConcreteTypes.{field_of}
 use Rattle.gft_model.specs.ConcreteTyping.{Spine, applied_to, at_head}
@@ -41,18 +41,18 @@ form_is e h = ap plain_form h
 
 -- a term that is no application is its own head
 own_head : {e h : Term} {es : List Term} {l : Layer} → Spine e [] h es → out-Term e ≡ l
-    → is_application (plain_form l) ≡ false → e ≡ h
-own_head (applied_to k s) x y = let wrong : true ≡ false = sym (ap is_application k) ∙ ap is_application (form_is _ x) ∙ y in cc
+    → is_head_part 0 (plain_form l) ≡ false → e ≡ h
+own_head (applied_to k s) x y = let wrong : true ≡ false = sym (ap (is_head_part 0) k) ∙ ap (is_head_part 0) (form_is _ x) ∙ y in cc
 own_head (at_head k) x y = refl
 
-module _ {cats funs : List FlatJudgement} {L : Whole → Type 0} where
+module _ {cats funs : List FlatJudgement} where
   mutual
-    index_once : {Γ : Arguments} {e : Term} {t u : Tree} → IsIndex cats funs L Γ e t → IsIndex cats funs L Γ e u → t ≡ u
-    index_once {Γ} (variable {x = x} {k = i} {A = A} h f) (variable {x = y} {k = j} {A = B} k g) =
+    index_once : {Γ : List Context} {e : Term} {t u : Tree} → IsIndex cats funs Γ e t → IsIndex cats funs Γ e u → t ≡ u
+    index_once {Γ} (variable {x = x} {k = i} {t = A} h f) (variable {x = y} {k = j} {t = B} k g) =
         let names : x ≡ y = cc in
-        let there : Some (i, A) ≡ Some (j, B) = sym f ∙ ap (λ n. field_of n Γ.variables) names ∙ g in
+        let there : Some (i, A) ≡ Some (j, B) = sym f ∙ ap (λ n. field_of n (variables_of Γ)) names ∙ g in
         let same : (i, A) ≡ (j, B) = cc in
-        ap (λ (p : ℕ × Option Indexed). roll-Tree (Tree-F.Hole p.0)) same
+        ap (λ (p : ℕ × (Term × List Context)). roll-Tree (Tree-F.Hole p.0)) same
     index_once (variable h f) (number k) = cc
     index_once (variable h f) (text k w) = cc
     index_once (variable h f) (application s k g a) = let own = own_head s h refl in cc
@@ -70,44 +70,40 @@ module _ {cats funs : List FlatJudgement} {L : Whole → Type 0} where
     index_once {Γ} {e} (application {w = w} {ts = ts} s h f a) (application {w = v} {ts = us} r k g b) =
         let spines = spine-once s r refl refl in
         let same : w ≡ v = cc in
-        let trees = are_once a (subst (λ es. AreIndices cats funs L Γ es us) (sym spines.1) b) in
+        let trees = are_once a (subst (λ es. AreIndices cats funs Γ es us) (sym spines.1) b) in
         ap (λ (x : Whole). roll-Tree (Tree-F.App x.name ts)) same ∙ ap (λ xs. roll-Tree (Tree-F.App v.name xs)) trees
 
-    are_once : {Γ : Arguments} {es : List Term} {ts us : List Tree} → AreIndices cats funs L Γ es ts
-        → AreIndices cats funs L Γ es us → ts ≡ us
+    are_once : {Γ : List Context} {es : List Term} {ts us : List Tree} → AreIndices cats funs Γ es ts
+        → AreIndices cats funs Γ es us → ts ≡ us
     are_once no_index no_index = refl
     are_once (one_index i is) (one_index j js) = let first = index_once i j in let rest = are_once is js in cc
 
-  type_once : {Γ : Arguments} {e : Term} {A B : Indexed} → ReadsType cats funs L Γ e A → ReadsType cats funs L Γ e B → A ≡ B
+  type_once : {Γ : List Context} {e : Term} {A B : Indexed} → ReadsType cats funs Γ e A → ReadsType cats funs Γ e B → A ≡ B
   type_once {Γ} (indexed {w = w} {ts = ts} s h c a) (indexed {w = v} {ts = us} r k d b) =
       let spines = spine-once s r refl refl in
       let heads = ap (λ g. head_name (out-Term g)) spines.0 in
       let same : w ≡ v = cc in
-      let trees = are_once a (subst (λ es. AreIndices cats funs L Γ es us) (sym spines.1) b) in
+      let trees = are_once a (subst (λ es. AreIndices cats funs Γ es us) (sym spines.1) b) in
       λ i. record { category = (same i).name; indices = trees i }
   type_once (indexed s h c a) (built_in k b) =
       let own = ap (λ g. head_name (out-Term g)) (own_head s k refl) in let name = ap head_name k in cc
   type_once (built_in h a) (indexed s k c b) =
       let own = ap (λ g. head_name (out-Term g)) (own_head s h refl) in let name = ap head_name h in cc
-  type_once (built_in {x = x} h a) (built_in {x = y} k b) = let same : x ≡ y = cc in
-      λ i. record { category = same i; indices = [] }
+  type_once (built_in {x = x} h a) (built_in {x = y} k b) = let same : x ≡ y = cc in ap without_indices same
 
-  no_arrow : {Γ : Arguments} {e a b : Term} {xs : List Bind} {p : Place} {A : Indexed} → ReadsType cats funs L Γ e A
+  no_arrow : {Γ : List Context} {e a b : Term} {xs : List Bind} {p : Place} {A : Indexed} → ReadsType cats funs Γ e A
       → out-Term e ≡ T.Arrow xs a b p → ⊥
   no_arrow (indexed s h c a) k = let own = ap (λ g. head_name (out-Term g)) (own_head s k refl) in let name = ap head_name k in cc
   no_arrow (built_in h a) k = cc
 
-  context_once : {Γ : Arguments} {cs : List Context} {As Bs : List Indexed} → ReadsContext cats funs L Γ cs As
-      → ReadsContext cats funs L Γ cs Bs → As ≡ Bs
+  context_once : {Γ : List Context} {cs : List Context} {As Bs : List Indexed} → ReadsContext cats funs Γ cs As
+      → ReadsContext cats funs Γ cs Bs → As ≡ Bs
   context_once no_context no_context = refl
-  context_once {Γ} (more_context {c = c} {cs = cs} {A = A} {As = As} t r) (more_context {A = B} {As = Bs} u s) =
-      let same = type_once t u in
-      let rest = context_once r
-          (subst (λ X. ReadsContext cats funs L (with_arguments_of c.binds (Some X) Γ) cs Bs) (sym same) s) in
-      λ i. for_each c.binds (same i) ++ rest i
+  context_once (more_context {c = c} t r) (more_context u s) =
+      let same = type_once t u in let rest = context_once r s in λ i. for_each c.binds (same i) ++ rest i
 
-  function_once : {Γ : Arguments} {e d : Term} {As Bs : List Indexed} {R S : Indexed} → e ≡ d
-      → ReadsFunction cats funs L Γ e As R → ReadsFunction cats funs L Γ d Bs S
+  function_once : {Γ : List Context} {e d : Term} {As Bs : List Indexed} {R S : Indexed} → e ≡ d
+      → ReadsFunction cats funs Γ e As R → ReadsFunction cats funs Γ d Bs S
       → (As ≡ Bs) × (R ≡ S)
   function_once {Γ} e (takes {a = a} {b = b} {xs = xs} {A = A} {As = As} h t r)
       (takes {a = c} {b = d} {xs = ys} {A = B} {B = S} {As = Bs} k u s) =
@@ -115,15 +111,15 @@ module _ {cats funs : List FlatJudgement} {L : Whole → Type 0} where
       let first : a ≡ c = cc in
       let binds : xs ≡ ys = cc in
       let second : b ≡ d = cc in
-      let same = type_once t (subst (λ f. ReadsType cats funs L Γ f B) (sym first) u) in
-      let scope : with_arguments_of ys (Some B) Γ ≡ with_arguments_of xs (Some A) Γ =
-          ap (λ zs. with_arguments_of zs (Some B) Γ) (sym binds) ∙ ap (λ X. with_arguments_of xs (Some X) Γ) (sym same) in
-      let rest = function_once second r (subst (λ Δ. ReadsFunction cats funs L Δ d Bs S) scope s) in
+      let same = type_once t (subst (λ f. ReadsType cats funs Γ f B) (sym first) u) in
+      let scope : record { binds = ys; of_type = c } ∷ Γ ≡ record { binds = xs; of_type = a } ∷ Γ =
+          λ i. record { binds = sym binds i; of_type = sym first i } ∷ Γ in
+      let rest = function_once second r (subst (λ Δ. ReadsFunction cats funs Δ d Bs S) scope s) in
       (λ i. for_each (binds i) (same i) ++ rest.0 i, rest.1)
   function_once e (takes h t r) (gives u) = absurd (no_arrow u (ap out-Term (sym e) ∙ h))
   function_once e (gives t) (takes k u s) = absurd (no_arrow t (ap out-Term e ∙ k))
   function_once {Γ} e (gives {B =
-      A} t) (gives {B = B} u) = (refl, type_once t (subst (λ f. ReadsType cats funs L Γ f B) (sym e) u))
+      A} t) (gives {B = B} u) = (refl, type_once t (subst (λ f. ReadsType cats funs Γ f B) (sym e) u))
 
 -- BY NAME
 
@@ -155,9 +151,8 @@ sorted_once {xs = xs} {ys = ys} x y = order_once ByName (λ e f p q. never_both 
 
 declared_once : {es sorted : List FlatJudgement} {w : Whole} {i j : Judgement} → IsSorted es sorted → Declares es w i
     → Declares es w j → i ≡ j
-declared_once {sorted = sorted} s (e, c, h, k) (f, d, l, m) =
-    sym k ∙ ap (λ (g : FlatJudgement). g.judgement)
-    (same_entry sorted s.in_order ((s.same e).1 c) ((s.same f).1 d) (ap (λ (v : Whole). v.name) (h ∙ sym l))) ∙ m
+declared_once {sorted = sorted} s c d =
+    ap (λ (g : FlatJudgement). g.judgement) (same_entry sorted s.in_order ((s.same _).1 c) ((s.same _).1 d) refl)
 
 -- two zips of one list
 zips_once : {A B : Type 0} {R S : A → B → Type 0} → ((x : A) (y z : B) → R x y → S x z → y ≡ z) → (xs : List A) (ys zs : List B)
@@ -192,29 +187,29 @@ numbered_once a b h A t u x y =
 -- ALL OF IT
 
 -- the names of the categories are those of their entries
-listed_names : (cats funs : List FlatJudgement) (L : Whole → Type 0) (a : Abstract) (es : List FlatJudgement) (cs : List Cat) →
-    AllZip (IsCategory cats funs L a) es cs → map entry_name es ≡ cat_names cs
-listed_names cats funs L a [] [] z = refl
-listed_names cats funs L a [] (c ∷ cs) z = absurd z
-listed_names cats funs L a (e ∷ es) [] z = absurd z
-listed_names cats funs L a (e ∷ es) (c ∷ cs) z = let name = z.0.name in let rest = listed_names cats funs L a es cs z.1 in cc
+listed_names : (cats funs : List FlatJudgement) (a : Abstract) (es : List FlatJudgement) (cs : List Cat) →
+    AllZip (IsCategory cats funs a) es cs → map entry_name es ≡ cat_names cs
+listed_names cats funs a [] [] z = refl
+listed_names cats funs a [] (c ∷ cs) z = absurd z
+listed_names cats funs a (e ∷ es) [] z = absurd z
+listed_names cats funs a (e ∷ es) (c ∷ cs) z = let name = z.0.name in let rest = listed_names cats funs a es cs z.1 in cc
 
 abbrev built_in_and : List Cat → List Cat
 built_in_and cs = record { name = codes "Int"; context = [] } ∷ record { name = codes "String"; context = [] } ∷ cs
 
-module _ {cats funs : List FlatJudgement} {L : Whole → Type 0} where
+module _ {cats funs : List FlatJudgement} where
   has_context_once : {sorted : List FlatJudgement} {w : Whole} {As Bs : List Indexed} → IsSorted cats sorted
-      → HasContext cats funs L w As → HasContext cats funs L w Bs → As ≡ Bs
+      → HasContext cats funs w As → HasContext cats funs w Bs → As ≡ Bs
   has_context_once {Bs = Bs} s (its_context {n = n} {cs = cs} d r) (its_context {n = m} {cs = ds} e q) =
       let same : J.Cat n cs ≡ J.Cat m ds = declared_once s d e in
       let contexts : ds ≡ cs = cc in
-      context_once r (subst (λ xs. ReadsContext cats funs L no_arguments xs Bs) contexts q)
+      context_once r (subst (λ xs. ReadsContext cats funs [] xs Bs) contexts q)
   has_context_once s (its_context d r) (of_a_list e) = let wrong = declared_once s d e in cc
   has_context_once s (of_a_list d) (its_context e q) = let wrong = declared_once s d e in cc
   has_context_once s (of_a_list d) (of_a_list e) = refl
 
   has_signature_once : {sorted : List FlatJudgement} {w : Whole} {As Bs : List Indexed} {R S : Indexed} → IsSorted funs sorted
-      → HasSignature cats funs L w As R → HasSignature cats funs L w Bs S → (As ≡ Bs) × (R ≡ S)
+      → HasSignature cats funs w As R → HasSignature cats funs w Bs S → (As ≡ Bs) × (R ≡ S)
   has_signature_once s (its_type {ns = ns} {t = t} d r) (its_type {ns = ms} {t = u} e q) =
       let same : J.Fun ns t ≡ J.Fun ms u = declared_once s d e in
       let types : t ≡ u = cc in function_once types r q
@@ -224,12 +219,12 @@ module _ {cats funs : List FlatJudgement} {L : Whole → Type 0} where
       {p = o} e) =
       let same : J.ListCat n r k p ≡ J.ListCat m q l o = declared_once s d e in
       let names : r ≡ q = cc in (
-        ap (λ j. map (λ (C : List ℕ). record { category = C; indices = [] }) (signature_given w.name j).arguments) same,
-        ap (λ x. record { category = list_name (name_of x); indices = [] }) names,
+        ap (λ j. map without_indices (signature_given w.name j).arguments) same,
+        ap (λ x. without_indices (list_name (name_of x))) names,
       )
 
   category_once : {sorted : List FlatJudgement} → IsSorted cats sorted → (a b : Abstract) → cat_names a.cats ≡ cat_names b.cats →
-      (e : FlatJudgement) (c d : Cat) → IsCategory cats funs L a e c → IsCategory cats funs L b e d → c ≡ d
+      (e : FlatJudgement) (c d : Cat) → IsCategory cats funs a e c → IsCategory cats funs b e d → c ≡ d
   category_once s a b h e c d x y =
       let contexts = has_context_once s x.has_context y.has_context in
       let name : c.name ≡ d.name = sym x.name ∙ y.name in
@@ -239,7 +234,7 @@ module _ {cats funs : List FlatJudgement} {L : Whole → Type 0} where
 
   a_function_once : {sorted : List FlatJudgement} → IsSorted funs sorted → (a b : Abstract)
       → cat_names a.cats ≡ cat_names b.cats →
-      (e : FlatJudgement) (f g : Fun) → IsFunction cats funs L a e f → IsFunction cats funs L b e g → f ≡ g
+      (e : FlatJudgement) (f g : Fun) → IsFunction cats funs a e f → IsFunction cats funs b e g → f ≡ g
   a_function_once s a b h e f g x y =
       let signatures = has_signature_once s x.has_signature y.has_signature in
       let name : f.name ≡ g.name = sym x.name ∙ y.name in
@@ -249,16 +244,16 @@ module _ {cats funs : List FlatJudgement} {L : Whole → Type 0} where
       (subst (λ R. IsNumbered b R g.result) (sym signatures.1) y.result_numbered) in
       λ i. record { name = name i; args = args i; result = result i }
 
-  pub abstract_once : {name : List ℕ} {js : List Judgement} (a b : Abstract) → IsAbstractPart cats funs L a name js
-      → IsAbstractPart cats funs L b name js → a ≡ b
+  pub abstract_once : {name : List ℕ} {js : List Judgement} (a b : Abstract) → IsAbstractPart cats funs a name js
+      → IsAbstractPart cats funs b name js → a ≡ b
   abstract_once {js = js} a b x y =
       let cats_same = sorted_once x.cats_by_name y.cats_by_name in
       let funs_same = sorted_once x.funs_by_name y.funs_by_name in
-      let categories = subst (λ es. AllZip (IsCategory cats funs L b) es y.listed) (sym cats_same) y.categories in
-      let functions = subst (λ es. AllZip (IsFunction cats funs L b) es b.funs) (sym funs_same) y.functions in
+      let categories = subst (λ es. AllZip (IsCategory cats funs b) es y.listed) (sym cats_same) y.categories in
+      let functions = subst (λ es. AllZip (IsFunction cats funs b) es b.funs) (sym funs_same) y.functions in
       let listed : cat_names x.listed ≡ cat_names y.listed =
-      sym (listed_names cats funs L a x.sorted_cats x.listed x.categories)
-          ∙ listed_names cats funs L b x.sorted_cats y.listed categories in
+      sym (listed_names cats funs a x.sorted_cats x.listed x.categories)
+          ∙ listed_names cats funs b x.sorted_cats y.listed categories in
       let names : cat_names a.cats ≡ cat_names b.cats =
       ap cat_names x.built_in ∙ ap (λ ns. codes "Int" ∷ codes "String" ∷ ns) listed ∙ ap cat_names (sym y.built_in) in
       let same_listed = zips_once (category_once x.cats_by_name a b names) x.sorted_cats x.listed y.listed x.categories

@@ -46,7 +46,7 @@ cats = record { whole = whole (codes "C"); judgement = J.Cat (named (codes "C"))
 abbrev funs : List FlatJudgement
 funs = record { whole = whole (codes "c"); judgement = J.Fun (named (codes "c") ∷ []) type_term } ∷ []
 
-module _ (LeftOut : Whole → Type 0) (Γ : AbstractFaults.Arguments) where
+module _ (Γ : List Context) where
   a_name : (r : Whole) (p : Place) (es : List Term) → Spine (roll-Term (T.Var (WholeName r) p)) es (roll-Term (T.Var (WholeName r) p)) es
   a_name r p es = at_head (λ f a q e. let h = form-roll (T.Var (WholeName r) p) in cc)
 
@@ -57,22 +57,18 @@ module _ (LeftOut : Whole → Type 0) (Γ : AbstractFaults.Arguments) where
   abbrev c_type : AbstractFaults.Indexed
   c_type = record { category = codes "C"; indices = c_tree ∷ [] }
 
-  is_index : AbstractFaults.IsIndex cats funs LeftOut Γ c_term c_tree
-  is_index = AbstractFaults.application (a_name _ _ []) (out-roll-Term _)
-      (J.Fun (named (codes "c") ∷ []) type_term, (_, (0, omega arith, refl), refl, refl)) AbstractFaults.no_index
+  is_index : AbstractFaults.IsIndex cats funs Γ c_term c_tree
+  is_index = AbstractFaults.application (a_name _ _ []) (out-roll-Term _) (0, omega arith, refl) AbstractFaults.no_index
 
-  reads_type : AbstractFaults.ReadsType cats funs LeftOut Γ type_term c_type
+  reads_type : AbstractFaults.ReadsType cats funs Γ type_term c_type
   reads_type =
       AbstractFaults.indexed (applied_to (form-roll _) (a_name _ _ (c_term ∷ []))) (ap AbstractFaults.head_name (out-roll-Term _))
-      (J.Cat (named (codes "C")) (context ∷ []), (_, (0, omega arith, refl), refl, refl)) (AbstractFaults.one_index is_index AbstractFaults.no_index)
+      (0, omega arith, refl) (AbstractFaults.one_index is_index AbstractFaults.no_index)
 
 -- neither waits for the other: the category has its context, and the function its type
-pub has_context : (LeftOut : Whole → Type 0) → AbstractFaults.HasContext cats funs LeftOut (whole (codes "C")) (c_type LeftOut AbstractFaults.no_arguments ∷ [])
-has_context LeftOut =
-    AbstractFaults.its_context (_, (0, omega arith, refl), refl, refl)
-    (AbstractFaults.more_context (reads_type LeftOut AbstractFaults.no_arguments) AbstractFaults.no_context)
+pub has_context : AbstractFaults.HasContext cats funs (whole (codes "C")) (c_type [] ∷ [])
+has_context =
+    AbstractFaults.its_context (0, omega arith, refl) (AbstractFaults.more_context (reads_type []) AbstractFaults.no_context)
 
-pub has_signature : (LeftOut : Whole → Type 0) →
-    AbstractFaults.HasSignature cats funs LeftOut (whole (codes "c")) [] (c_type LeftOut AbstractFaults.no_arguments)
-has_signature LeftOut =
-    AbstractFaults.its_type (_, (0, omega arith, refl), refl, refl) (AbstractFaults.gives (reads_type LeftOut AbstractFaults.no_arguments))
+pub has_signature : AbstractFaults.HasSignature cats funs (whole (codes "c")) [] (c_type [])
+has_signature = AbstractFaults.its_type (0, omega arith, refl) (AbstractFaults.gives (reads_type []))

@@ -9,7 +9,7 @@ use Rattle.gft_syntax.specs.declared.module.Module.{Module}
 use Rattle.gft_syntax.specs.declared.reference.PlacedName.{PlacedName}
 use Rattle.gft_model.specs.Commands.{EndsIn, source_ending}
 use Rattle.gft_model.specs.AbstractParts.{IsAbstractPart}
-use Rattle.gft_model.specs.Import.{BreaksImport, sources, HasPart, of_its_source, of_portable, HasLanguage, of_module, GivesPart, abstract_part, with_language, LeftOut, IsView, AreTypings}
+use Rattle.gft_model.specs.Import.{BreaksImport, sources, HasPart, of_its_source, of_portable, HasLanguage, of_module, GivesPart, abstract_part, with_language, IsView, AreTypings}
 use Rattle.gft_model.specs.Loading.{Loading, base_of, loaded, LoadsNamed, nothing_loaded}
 use Rattle.gft_model.specs.Modules.{is_abstract, module_named, judgements_of}
 use Rattle.gft_model.specs.States.{Loaded, of_file, of_source, Gives, source, portable}
@@ -37,9 +37,9 @@ has_part_once {mods = mods} {a = a} {b = b} ends (of_its_source {m} {A} {abstrac
     let names : A ≡ B = cc in
     let found : Some abstract ≡ Some other = sym i ∙ ap (module_named mods) names ∙ l in
     let there : abstract ≡ other = cc in
-    abstract_once a b p (subst (λ (g : Flat). IsAbstractPart g.cats g.funs (LeftOut mods g.funs) b A (judgements_of abstract)) (sym flats)
-    (subst (λ n. IsAbstractPart view.cats view.funs (LeftOut mods view.funs) b A (judgements_of n)) (sym there)
-    (subst (λ N. IsAbstractPart view.cats view.funs (LeftOut mods view.funs) b N (judgements_of other)) (sym names) q)))
+    abstract_once a b p (subst (λ (g : Flat). IsAbstractPart g.cats g.funs b A (judgements_of abstract)) (sym flats)
+    (subst (λ n. IsAbstractPart view.cats view.funs b A (judgements_of n)) (sym there)
+    (subst (λ N. IsAbstractPart view.cats view.funs b N (judgements_of other)) (sym names) q)))
 has_part_once ends (of_its_source e v h i p) (of_portable j k l) = absurd (endings_apart ends j)
 has_part_once ends (of_portable i j k) y = absurd (endings_apart ends i)
 

@@ -23,12 +23,12 @@ pub record IsSorted (es sorted : List FlatJudgement) : Type 0 where
   pub same : (e : FlatJudgement) → Contains sorted e ↔ Contains es e
   pub in_order : AllPairs (λ e f. Before (name_moment e.whole.name) (name_moment f.whole.name)) sorted
 
-module _ (cats funs : List FlatJudgement) (LeftOut : Whole → Type 0) (a : Abstract) where
+module _ (cats funs : List FlatJudgement) (a : Abstract) where
   -- the category with the types of its indices
   pub record IsCategory (e : FlatJudgement) (c : Cat) : Type 0 where
     pub name : e.whole.name ≡ c.name
     pub context : List Indexed
-    pub has_context : HasContext cats funs LeftOut e.whole context
+    pub has_context : HasContext cats funs e.whole context
     pub numbered : AllZip (IsNumbered a) context c.context
 
   -- the function with the types of its arguments and of its result
@@ -36,7 +36,7 @@ module _ (cats funs : List FlatJudgement) (LeftOut : Whole → Type 0) (a : Abst
     pub name : e.whole.name ≡ f.name
     pub arguments : List Indexed
     pub result : Indexed
-    pub has_signature : HasSignature cats funs LeftOut e.whole arguments result
+    pub has_signature : HasSignature cats funs e.whole arguments result
     pub numbered : AllZip (IsNumbered a) arguments f.args
     pub result_numbered : IsNumbered a result f.result
 

@@ -45,7 +45,8 @@ may_stand (J.Flag n v) h = true
 may_stand (J.Cat n cs) h = is_abstract h
 may_stand (J.ListCat n r k place) h = is_abstract h
 may_stand (J.Fun ns T) h = is_abstract h
-may_stand j h = elim (sort_of j) [ Some k ↦ is_concrete h | None ↦ if is_undefined j then is_interface h else not (is_abstract h) ]
+may_stand j h =
+    elim (sort_of j) [ Some k ↦ is_concrete h | None ↦ if is_undefined j then is_interface h else not (is_abstract h) ]
 
 -- what a module declares, in order, each name with the sort of its judgement
 abbrev pub own_names : Module → List (Option Keyword × PlacedName)
@@ -63,7 +64,8 @@ IsWith m f ss = (hs : List Inherited) × (b : Option Body) × (m.rest ≡ With h
 
 -- a module that a header names, and which kinds are allowed there
 pub data Wants (m : Module) : PlacedName → (Header → Bool) → Type 0 where
-  after_of : {n : _} → Contains (header_mentions m.header) n → Wants m n (if is_concrete m.header then is_abstract else is_interface)
+  after_of : {n : _} → Contains (header_mentions m.header) n →
+      Wants m n (if is_concrete m.header then is_abstract else is_interface)
   inherited : {h : _} → Contains (inherited_of m.rest) h → Wants m (inherited_at h) (may_inherit m.header)
   opened : {o : _} → Contains (opened_of m) o → Wants m (opened_at o) (may_open m.header)
 

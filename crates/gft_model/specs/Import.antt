@@ -3,7 +3,7 @@ use Rattle.std.specs.FinMap.{get, remove}
 use Rattle.std.specs.List.{list_any}
 use Rattle.std.specs.Prelude.{◌≡◌, ◌↔◌, ℕ, ◌<◌, List, [], ◌∷◌, ◌++◌, flat_map, length, bytes_eq, Contains, Some, ◌≢◌, slice_get, Bool, false, true, ◌||◌, Option}
 use Rattle.gft_io.specs.Outside.{Files}
-use Rattle.gft_model.specs.AbstractFaults.{BreaksAbstract}
+use Rattle.gft_model.specs.AbstractFaults.{IsAmong, BreaksAbstract}
 use Rattle.gft_model.specs.AbstractParts.{IsAbstractPart}
 use Rattle.gft_model.specs.Commands.{EndsIn, portable_ending}
 use Rattle.gft_model.specs.CompileFaults.{BreaksCompiling}
@@ -53,7 +53,7 @@ module _ (mods : List Module) where
 
   -- a function that a module leaves out of what it inherits
   abbrev pub LeftOut : List FlatJudgement → Whole → Type 0
-  LeftOut funs w = ((e : FlatJudgement) → Contains funs e → e.whole ≢ w)
+  LeftOut funs w = ¬ (IsAmong funs w)
       × ((at : Moment) × (e : FlatJudgement) × HasOfPart mods functions w.«module» at e × (e.whole ≡ w))
 
   -- what is broken in a module: its header, by number and then by place, names declared twice, names, by place, then
@@ -88,7 +88,7 @@ is_named names m = list_any (λ file. bytes_eq (base_of file) (header_name m.hea
 pub data HasPart (files : Files) (mods : List Module) (file : List ℕ) : AbstractSyntax → Type 0 where
   of_its_source : {m A abstract a : _} {flat : Flat} → module_named mods (base_of file) ≡ Some m → IsView mods m flat →
       flat.name ≡ Some A → module_named mods A ≡ Some abstract →
-      IsAbstractPart flat.cats flat.funs (LeftOut mods flat.funs) a A (judgements_of abstract) → HasPart files mods file a
+      IsAbstractPart flat.cats flat.funs a A (judgements_of abstract) → HasPart files mods file a
   of_portable : {bytes : _} {g : Grammar} → EndsIn portable_ending file → get files file ≡ Some bytes →
       PortableFile.Reads bytes g → HasPart files mods file g.abs
 

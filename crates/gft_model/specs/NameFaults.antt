@@ -42,7 +42,8 @@ bound_in is_constructor xs = fold-Pattern (List PlacedName) (bound_step (λ x. i
 -- forms that are one name, with parts that are none: Q.x, a function of Predef, and Ints before a number
 pub data IsName (e : Term) : Type 0 where
   qualified : {q x a Q p : _} → out-Term e ≡ T.Proj q x a → out-Term q ≡ T.Var (Written Q) p → IsName e
-  of_predef : {q x a p f : _} → out-Term e ≡ T.Proj q x a → out-Term q ≡ T.Sort Sort-V.Predef p → predef_named x ≡ Some f → IsName e
+  of_predef : {q x a p f : _} → out-Term e ≡ T.Proj q x a → out-Term q ≡ T.Sort Sort-V.Predef p → predef_named x ≡ Some f →
+      IsName e
   of_ints : {f a place p n q : _} → out-Term e ≡ T.App f a place → out-Term f ≡ T.Sort Sort-V.Ints p → out-Term a ≡ T.Num n q →
       IsName e
 
