@@ -35,11 +35,12 @@ slices-once (M.slice {k = k} {ss = ss} {j = i} {js = is} a d) (M.slice {j = j} {
     ap (λ x. x ∷ is) same.1 ∙ ap (λ xs. j ∷ xs) (slices-once d (subst (λ l. SpellsSlices (Some l) ss js) (sym same.0) e))
 
 same-slices : {ts us vs ws : Tokens} {ss rs : List Tokens} {is js : List Judgement} → ts ≡ us →
-    slices_of ts ≡ Some (ss, vs) → SpellsSlices None ss is → slices_of us ≡ Some (rs, ws) → SpellsSlices None rs js → (is ≡ js) × (vs ≡ ws)
+    slices_of ts ≡ (ss, Some vs) → SpellsSlices None ss is → slices_of us ≡ (rs, Some ws) → SpellsSlices None rs js →
+    (is ≡ js) × (vs ≡ ws)
 same-slices {vs = vs} {ws = ws} {ss = ss} {rs = rs} {js = js} e h d i f =
-    let some : ◌≡◌ {A = Option (List Tokens × Tokens)} (Some (ss, vs)) (Some (rs, ws)) = sym h ∙ ap slices_of e ∙ i in
-    let both : ◌≡◌ {A = List Tokens × Tokens} (ss, vs) (rs, ws) = cc in
-    (slices-once d (subst (λ xs. SpellsSlices None xs js) (sym (ap (λ (x : List Tokens × Tokens). x.0) both)) f), ap (λ (x : List Tokens × Tokens). x.1) both)
+    let both : ◌≡◌ {A = List Tokens × Option Tokens} (ss, Some vs) (rs, Some ws) = sym h ∙ ap slices_of e ∙ i in
+    let rest : Some vs ≡ Some ws = ap (λ (x : List Tokens × Option Tokens). x.1) both in
+    (slices-once d (subst (λ xs. SpellsSlices None xs js) (sym (ap (λ (x : List Tokens × Option Tokens). x.0) both)) f), cc)
 
 pub forms-agree : {t u : SourceToken} {ts us : Tokens} → t ∷ ts ≡ u ∷ us → t.form ≡ u.form
 forms-agree {t} {u} e = let same : t ≡ u = cc in ap (λ x. x.form) same

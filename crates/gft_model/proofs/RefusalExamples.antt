@@ -1,13 +1,18 @@
 -- Worked examples of refusals of characters and slices.
-use Rattle.std.proofs.Common.{◌≡◌, ℕ, List, [], ◌∷◌, ◌++◌, refl, ◌⊎◌, inl, inr, ap, sym, ◌∙◌, subst, arith}
+use Rattle.std.proofs.Common.{◌≡◌, ℕ, zero, suc, true, List, [], ◌∷◌, ◌++◌, refl, ◌⊎◌, inl, inr, ap, sym, ◌∙◌, subst, arith}
 use Rattle.std.specs.Prelude.{codes, ◌≤◌, drop, Some, None}
 use Rattle.std.specs.Str.{chars, is_utf8}
 use Rattle.std.specs.Str.Lossy.{utf8_valid_len}
 use lib.Utf8
+use Rattle.ucd_derived.specs.Binary.{is_xid_start, is_xid_continue}
+use Rattle.ucd_derived.specs.XidStartRanges.{xid_start_ranges}
+use Rattle.ucd_derived.specs.XidContinueRanges.{xid_continue_ranges}
+use Rattle.ucd_table.specs.Rows.{in_ranges}
 use Rattle.gft_core.specs.declared.place.Place.{Place}
 use Rattle.gft_rules.specs.declared.refusal.Refusal.{Refusal}
 use Rattle.gft_rules.specs.declared.rule.Rule.TheVariants as R
 use Rattle.gft_syntax.specs.declared.judgement.Judgement.{Judgement}
+use Rattle.gft_syntax.specs.declared.judgement.Judgement.TheVariants as J
 use Rattle.gft_syntax.specs.declared.judgement.Keyword.{Keyword}
 use Rattle.gft_syntax.specs.declared.judgement.Keyword.TheVariants as K
 use Rattle.gft_syntax.specs.declared.token.Reserved.TheVariants as W
@@ -15,7 +20,7 @@ use Rattle.gft_syntax.specs.declared.token.SourceToken.{SourceToken}
 use Rattle.gft_syntax.specs.declared.token.Symbol.TheVariants as S
 use Rattle.gft_syntax.specs.declared.token.TokenForm.{TokenForm}
 use Rattle.gft_syntax.specs.declared.token.TokenForm.TheVariants.{Identifier, Reserved, Number, Symbol}
-use Rattle.gft_model.specs.Grammar.{IsReserved, one, more, none}
+use Rattle.gft_model.specs.Grammar.{IsReserved, placed, one, more, none}
 use Rattle.gft_model.specs.ModuleGrammar.{SpellsJudgement, SpellsSlice, with_keyword, goes_on, keyword_word, category, function, linearization}
 use Rattle.gft_model.specs.Refusals.{refusal}
 use Rattle.gft_model.specs.Source.{lexeme_at, longest, token, nothing}
@@ -98,11 +103,25 @@ function_slice = at 23 (Reserved W.Fun) ∷ at 27 (Identifier (codes "a")) ∷ [
 abbrev body : List SourceToken
 body = category_slice ++ at 21 (Symbol S.Semicolon) ∷ function_slice ++ at 29 (Symbol S.Semicolon) ∷ at 31 (Symbol S.RightBrace) ∷ []
 
-opens : SyntaxFaults.OpensBody (header ++ brace ∷ body) header brace body
-opens = record { tokens = refl; is_brace = refl; is_first = refl }
+no_brace : SyntaxFaults.NoBody header
+no_brace t (zero, h, e) l = let same = ap (λ (u : SourceToken). u.form) e in cc
+no_brace t (suc zero, h, e) l = let same = ap (λ (u : SourceToken). u.form) e in cc
+no_brace t (suc (suc zero), h, e) l = let same = ap (λ (u : SourceToken). u.form) e in cc
+no_brace t (suc (suc (suc k)), h, e) l = absurd (omega (arith, h))
 
-has_slice : SyntaxFaults.HasSlice (header ++ brace ∷ body) 2 (SyntaxFaults.ended (Some K.Cat)) function_slice
-has_slice = SyntaxFaults.in_closed_body (category_slice ∷ []) ([] ∷ []) opens (SyntaxFaults.closed_body refl)
+opens : SyntaxFaults.OpensBody (header ++ brace ∷ body) header brace body
+opens = record { tokens = refl; is_brace = refl; is_first = no_brace }
+
+-- the slice before the function is in the grammar, so it is not the first that is not
+abbrev spelled_category : SpellsSlice None category_slice K.Cat (J.Cat (placed (codes "S") (at 19 (Identifier (codes "S")))) [])
+spelled_category = with_keyword {k = K.Cat} refl (category {cs = []} refl none)
+
+pub category_is_derivable : SyntaxFaults.IsDerivable (SyntaxFaults.in_body true None) category_slice
+category_is_derivable = SyntaxFaults.a_judgement spelled_category
+
+has_slice : SyntaxFaults.HasSlice (header ++ brace ∷ body) 2 (SyntaxFaults.in_body true (Some K.Cat)) function_slice
+has_slice =
+    SyntaxFaults.of_body (category_slice ∷ []) ([] ∷ []) opens refl (SyntaxFaults.after_judgement SyntaxFaults.at_first spelled_category)
 
 -- the token a is no function
 no_function : {j : Judgement} → SpellsJudgement K.Fun (at 27 (Identifier (codes "a")) ∷ []) j → ⊥
@@ -132,12 +151,12 @@ no_judgement : {j : Judgement} {k : Keyword} → SpellsSlice (Some K.Cat) functi
 no_judgement {k = k} (with_keyword w s) = with_its_keyword k w s
 no_judgement (goes_on s) = no_category s
 
-not_derivable : SyntaxFaults.IsDerivable (SyntaxFaults.ended (Some K.Cat)) function_slice → ⊥
+not_derivable : SyntaxFaults.IsDerivable (SyntaxFaults.in_body true (Some K.Cat)) function_slice → ⊥
 not_derivable (SyntaxFaults.a_judgement s) = no_judgement s
 
-pub no_type : SyntaxFaults.BreaksSyntax 0 (header ++ brace ∷ body) (2 ∷ 3 ∷ []) (refusal R.Syntax (here 1 23) (codes "fun" ∷ []))
-no_type = SyntaxFaults.not_in_grammar has_slice not_derivable refl (SyntaxFaults.reserved refl)
+the_word_fun : SyntaxFaults.IsSpelled (Reserved W.Fun) (codes "fun")
+unfolding is_xid_start is_xid_continue xid_start_ranges xid_continue_ranges in_ranges lib.Utf8.encode
+the_word_fun = (codes "fun", refl, refl)
 
--- the slice before it is in the grammar, so it is not the first that is not
-pub category_is_derivable : SyntaxFaults.IsDerivable (SyntaxFaults.ended None) category_slice
-category_is_derivable = SyntaxFaults.a_judgement (with_keyword {k = K.Cat} refl (category {cs = []} refl none))
+pub no_type : SyntaxFaults.BreaksSyntax 0 (header ++ brace ∷ body) (2 ∷ 3 ∷ 1 ∷ 23 ∷ []) (refusal R.Syntax (here 1 23) (codes "fun" ∷ []))
+no_type = SyntaxFaults.in_slice has_slice (SyntaxFaults.not_in_grammar not_derivable refl the_word_fun)

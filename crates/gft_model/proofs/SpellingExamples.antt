@@ -1,6 +1,6 @@
 -- Worked examples of the grammar: a term, a pattern, judgements and a module that tokens spell, and how
 -- a body is cut into slices.
-use Rattle.std.proofs.Common.{true, not, Option, sym, ◌∙◌, suc, arith, ◌≡◌, refl, ℕ, List, [], ◌∷◌, Some, None}
+use Rattle.std.proofs.Common.{◌++◌, true, not, Option, sym, ◌∙◌, suc, arith, ◌≡◌, refl, ℕ, List, [], ◌∷◌, Some, None}
 use Rattle.std.specs.Prelude.{codes}
 use Rattle.gft_core.specs.declared.place.Place.{Place}
 use Rattle.gft_syntax.specs.declared.judgement.Definition.TheVariants as D
@@ -128,11 +128,19 @@ hello_module =
       });
     }
 
+abbrev hello_body : Tokens
+hello_body =
+    cat_s ++ at 25 (Symbol S.Semicolon) ∷ x_alone ++ at 29 (Symbol S.Semicolon) ∷ fun_greet
+    ++ at 50 (Symbol S.Semicolon) ∷ at 51 (Symbol S.RightBrace) ∷ []
+
+hello_slices : slices_of hello_body ≡ (cat_s ∷ x_alone ∷ fun_greet ∷ [] ∷ [], Some [])
+hello_slices = refl
+
 -- the second slice goes on with the keyword of the first, and the last one is empty
 pub hello_is_spelled : SpellsModule hello hello_module
 hello_is_spelled =
     a_module (plain_module an_abstract refl refl) refl
-    (own_body nothing_before (closed_body refl refl
+    (own_body nothing_before (closed_body {ts = hello_body} refl hello_slices
     (slice (with_keyword refl (category refl none))
     (slice (goes_on (category refl none))
     (slice (with_keyword refl (function (one (a_placed_name refl)) refl
@@ -212,10 +220,10 @@ no_module m (a_module (incomplete_module h i j k l) g d e) = cc
 pub cut_outside_brackets :
     slices_of (word 1 (codes "a") ∷ at 2 (Symbol S.LeftBrace) ∷ word 3 (codes "x") ∷ at 4 (Symbol S.Semicolon) ∷ at 5 (Symbol S.RightBrace)
     ∷ at 6 (Symbol S.Semicolon) ∷ word 7 (codes "b") ∷ at 8 (Symbol S.RightBrace) ∷ at 9 (Symbol S.Semicolon) ∷ [])
-    ≡ Some (
+    ≡ (
       (word 1 (codes "a") ∷ at 2 (Symbol S.LeftBrace) ∷ word 3 (codes "x") ∷ at 4 (Symbol S.Semicolon) ∷ at 5 (Symbol S.RightBrace) ∷ [])
           ∷ (word 7 (codes "b") ∷ []) ∷ [],
-      at 9 (Symbol S.Semicolon) ∷ [],
+      Some (at 9 (Symbol S.Semicolon) ∷ []),
     )
 cut_outside_brackets = refl
 
@@ -223,15 +231,16 @@ cut_outside_brackets = refl
 pub in_within_brackets :
     slices_of (at 1 (Reserved W.Let) ∷ at 2 (Symbol S.LeftParenthesis) ∷ at 3 (Symbol S.Semicolon) ∷ at 4 (Reserved W.InWord)
     ∷ at 5 (Symbol S.RightParenthesis) ∷ at 6 (Symbol S.Semicolon) ∷ at 7 (Symbol S.RightBrace) ∷ [])
-    ≡ Some (
+    ≡ (
       (at 1 (Reserved W.Let) ∷ at 2 (Symbol S.LeftParenthesis) ∷ at 3 (Symbol S.Semicolon) ∷ at 4 (Reserved W.InWord)
           ∷ at 5 (Symbol S.RightParenthesis) ∷ []) ∷ [] ∷ [],
-      [],
+      Some [],
     )
 in_within_brackets = refl
 
--- a body that does not end has no slices
-pub no_end : slices_of (word 1 (codes "a") ∷ at 2 (Symbol S.LeftBrace) ∷ at 3 (Symbol S.RightBrace) ∷ []) ≡ None
+-- nothing is after a body that does not end
+pub no_end : slices_of (word 1 (codes "a") ∷ at 2 (Symbol S.LeftBrace) ∷ at 3 (Symbol S.RightBrace) ∷ [])
+    ≡ ((word 1 (codes "a") ∷ at 2 (Symbol S.LeftBrace) ∷ at 3 (Symbol S.RightBrace) ∷ []) ∷ [], None)
 no_end = refl
 
 -- those tokens are no other term: + does not bind x and y first

@@ -1,5 +1,5 @@
 -- Slices of a body, and which tokens spell a judgement, a header and a module.
-use Rattle.std.specs.Prelude.{◌≡◌, ℕ, ◌≤◌, List, [], ◌∷◌, ◌++◌, Option, Some, None, option_map}
+use Rattle.std.specs.Prelude.{◌≡◌, ℕ, ◌≤◌, List, [], ◌∷◌, ◌++◌, Option, Some, None}
 use Rattle.gft_syntax.specs.declared.bind.Bind.{Bind}
 use Rattle.gft_syntax.specs.declared.judgement.Definition.{Definition}
 use Rattle.gft_syntax.specs.declared.judgement.Definition.TheVariants as D
@@ -68,18 +68,18 @@ mark_of (Reserved W.InWord) = in_word
 mark_of t = other
 
 -- the slice that is held becomes the next one
-abbrev pub next_slice : Tokens → Option (List Tokens × Tokens) → Option (List Tokens × Tokens)
-next_slice held r = option_map (λ p. (held ∷ p.0, p.1)) r
+abbrev pub next_slice : Tokens → List Tokens × Option Tokens → List Tokens × Option Tokens
+next_slice held others = (held ∷ others.0, others.1)
 
 -- a body's slices, cut at each semicolon outside all brackets and lets, and the tokens after the
 -- body's brace; None where that does not come
-abbrev pub slices_from : List Opening → Tokens → Tokens → Option (List Tokens × Tokens)
-slices_from os held [] = None
+abbrev pub slices_from : List Opening → Tokens → Tokens → List Tokens × Option Tokens
+slices_from os held [] = (held ∷ [], None)
 slices_from os held (t ∷ ts) =
     elim (mark_of t.form) [
       | opening ↦ slices_from (bracket ∷ os) (held ++ t ∷ []) ts
       | closing_brace ↦ elim (closed os)
-          [ None ↦ Some (held ∷ [], ts) | Some rest ↦ slices_from rest (held ++ t ∷ []) ts ]
+          [ None ↦ (held ∷ [], Some ts) | Some rest ↦ slices_from rest (held ++ t ∷ []) ts ]
       | closing ↦ elim (closed os)
           [ None ↦ slices_from os (held ++ t ∷ []) ts | Some rest ↦ slices_from rest (held ++ t ∷ []) ts ]
       | let_word ↦ slices_from (local ∷ os) (held ++ t ∷ []) ts
@@ -90,7 +90,7 @@ slices_from os held (t ∷ ts) =
     ]
 
 -- the slices of a body from behind its brace, and the tokens after it
-abbrev pub slices_of : Tokens → Option (List Tokens × Tokens)
+abbrev pub slices_of : Tokens → List Tokens × Option Tokens
 slices_of ts = slices_from [] [] ts
 
 -- a definition, to the end of the slice
@@ -169,10 +169,10 @@ pub data SpellsSlices : Option Keyword → List Tokens → List Judgement → Ty
 
 -- a body: what it opens, and its slices in braces
 pub data SpellsBody : Tokens → Body → Tokens → Type 0 where
-  closed_body : {ts rest l ss js : _} → Is S.LeftBrace l → slices_of ts ≡ Some (ss, rest) → SpellsSlices None ss js →
+  closed_body : {ts rest l ss js : _} → Is S.LeftBrace l → slices_of ts ≡ (ss, Some rest) → SpellsSlices None ss js →
       SpellsBody (l ∷ ts) (record { opened = []; judgements = js }) rest
   opening_body : {ts us rest o i l os ss js : _} → IsReserved W.OpenWord o → Spells (listed S.Comma opened) ts os (i ∷ l ∷ us) →
-      IsReserved W.InWord i → Is S.LeftBrace l → slices_of us ≡ Some (ss, rest) → SpellsSlices None ss js →
+      IsReserved W.InWord i → Is S.LeftBrace l → slices_of us ≡ (ss, Some rest) → SpellsSlices None ss js →
       SpellsBody (o ∷ ts) (record { opened = os; judgements = js }) rest
 
 -- the kinds of modules that name no other
