@@ -33,12 +33,10 @@ module _ (files : Files) (lacks : get files no_gf ≡ None) where
   not_there : {bytes : List ℕ} → get files no_gf ≡ Some bytes → ⊥
   not_there {bytes} e = let wrong : None ≡ Some bytes = sym lacks ∙ e in cc
 
-  only_missing : {r : Refusal} → Loading.Fails files Loading.nothing_loaded no_gf (codes "No") r → r ≡ missing_file
+  only_missing : {r : Refusal} → Loading.Fails files Loading.most_bytes (Loading.BreaksSource 0 (codes "No")) no_gf r → r ≡ missing_file
   only_missing (Loading.missing e) = refl
   only_missing (Loading.too_long e h) = absurd (not_there e)
-  only_missing (Loading.bad_characters e h f) = absurd (not_there e)
-  only_missing (Loading.bad_slices e h t f) = absurd (not_there e)
-  only_missing (Loading.misnamed e h t a s n) = absurd (not_there e)
+  only_missing (Loading.broken b x) = absurd (not_there b.0)
 
   outcome : Loading.Outcome
   outcome = Loading.refused missing_file (Loading.with_file Loading.nothing_loaded no_gf)
@@ -48,18 +46,25 @@ module _ (files : Files) (lacks : get files no_gf ≡ None) where
 
   comes : Loading.LoadsNamed files Loading.nothing_loaded (no_gf ∷ []) outcome
   unfolding outcome
-  comes = Loading.named_refused (codes "No", refl) (none_loaded (codes "No")) (λ h. omega (arith, h)) (Loading.fails (Loading.missing lacks))
+  comes =
+      Loading.source_refused (codes "No", refl)
+      (Loading.loaded_now (none_loaded (codes "No")) (omega arith) (Loading.fails (Loading.missing lacks)))
+
+  only_got : {o : Loading.Outcome} → Loading.Gets files [] [] Loading.nothing_loaded (codes "No") o → o ≡ outcome
+  unfolding outcome
+  only_got (Loading.loaded_before l) = absurd (none_loaded (codes "No") l)
+  only_got (Loading.too_many n h) = absurd (omega (arith, h))
+  only_got (Loading.loaded_now n h (Loading.fails f)) =
+      ap (λ r. Loading.refused r (Loading.with_file Loading.nothing_loaded no_gf)) (only_missing f)
+  only_got (Loading.loaded_now n h (Loading.needs_refused b x p d)) = absurd (not_there b.0)
+  only_got (Loading.loaded_now n h (Loading.complete b x p d)) = absurd (not_there b.0)
 
   only_outcome : {o : Loading.Outcome} → Loading.LoadsNamed files Loading.nothing_loaded (no_gf ∷ []) o → o ≡ outcome
   unfolding outcome
-  only_outcome (Loading.known p l n) = absurd (none_loaded (codes "No") l)
-  only_outcome (Loading.no_room p l h) = absurd (omega (arith, h))
-  only_outcome (Loading.named_refused p l h (Loading.fails f)) =
-      ap (λ r. Loading.refused r (Loading.with_file Loading.nothing_loaded no_gf)) (only_missing f)
-  only_outcome (Loading.named_refused p l h (Loading.needs_refused (Loading.reads e b t a s m) n)) = absurd (not_there e)
-  only_outcome (Loading.named_loaded p l h (Loading.complete (Loading.reads e b t a s m) n) k) = absurd (not_there e)
+  only_outcome (Loading.source_refused p d) = only_got d
+  only_outcome (Loading.source_loaded p d k) = let e = only_got d in cc
   only_outcome (Loading.portable_refused p f) = absurd (not_portable p)
-  only_outcome (Loading.portable_read p e b g k) = absurd (not_portable p)
+  only_outcome (Loading.portable_read p b g k) = absurd (not_portable p)
 
   not_loaded : {s : Loading.Loading} → Loading.LoadsNamed files Loading.nothing_loaded (no_gf ∷ []) (Loading.loaded s) → ⊥
   unfolding outcome

@@ -3,9 +3,7 @@ use Rattle.std.specs.Prelude.{◌≡◌, ℕ, ◌-◌, ◌<◌, ◌≤◌, List,
 use Rattle.std.specs.FinMap.{get}
 use Rattle.std.specs.List.{list_any}
 use Rattle.gft_io.specs.Outside.{Files}
-use Rattle.gft_pmcfg.specs.declared.grammar.Grammar.{Grammar}
 use Rattle.gft_rules.specs.declared.refusal.Refusal.{Refusal}
-use Rattle.gft_rules.specs.declared.rule.Rule.{Rule}
 use Rattle.gft_rules.specs.declared.rule.Rule.TheVariants as R
 use Rattle.gft_syntax.specs.declared.module.Module.{Module}
 use Rattle.gft_syntax.specs.declared.reference.PlacedName.{PlacedName}
@@ -16,20 +14,17 @@ use Rattle.gft_model.specs.PortableFile
 use Rattle.gft_model.specs.PortableFile.{HasFault, IsInvalid}
 use Rattle.gft_model.specs.ModuleGrammar.{SpellsModule}
 use Rattle.gft_model.specs.Modules.{header_name, mentions, module_named}
-use Rattle.gft_model.specs.Refusals.{ByPlace, IsFirst, IsAccepted, refusal, placeless}
+use Rattle.gft_model.specs.Refusals.{ByPlace, IsFirst, IsAccepted, placeless, at_name}
 use Rattle.gft_model.specs.Source.{Tokens}
 use Rattle.gft_model.specs.SyntaxFaults.{BreaksSyntax}
 use Rattle.gft_model.specs.TokenFaults.{BreaksTokens}
 
--- limits: bytes of a source and of a portable file, modules of an import
+-- limits: bytes of a source and of a portable file
 abbrev pub most_bytes : ℕ
 most_bytes = 4194304
 
 abbrev pub most_portable_bytes : ℕ
 most_portable_bytes = 67108864
-
-abbrev pub most_modules : ℕ
-most_modules = 256
 
 -- the folder of a file name is its part up to and with the last slash
 abbrev pub folder_of : List ℕ → List ℕ
@@ -49,21 +44,33 @@ pub record Loading : Type 0 where
   pub files : List (List ℕ)
   pub modules : List Module
 
--- the file has that number of its own
-abbrev pub with_file : Loading → List ℕ → Loading
-with_file s file = record { files = s.files ++ file ∷ []; modules = s.modules }
+-- before the first file
+abbrev pub nothing_loaded : Loading
+nothing_loaded = record { files = []; modules = [] }
 
-abbrev pub with_module : Loading → Module → Loading
-with_module s m = record { files = s.files; modules = s.modules ++ m ∷ [] }
+-- one more file, with a number of its own
+abbrev pub with_file : Loading → List ℕ → Loading
+with_file s file = record s { files = s.files ++ file ∷ [] }
 
 -- loading goes on, or is refused when these are loaded
 pub data Outcome : Type 0 where
   loaded : Loading → Outcome
   refused : Refusal → Loading → Outcome
 
--- as many modules are loaded as may be
-abbrev pub HasNoRoom : Loading → Type 0
-HasNoRoom s = most_modules ≤ length s.files
+-- the module is loaded
+abbrev pub IsLoaded : Loading → List ℕ → Type 0
+IsLoaded s M = (m : Module) × (module_named s.modules M ≡ Some m)
+
+-- the bytes of the file of that number are the module, where nothing is broken in its slices
+abbrev pub IsSource : ℕ → List ℕ → Module → Type 0
+IsSource n bytes m = (ts : List SourceToken) × Tokens n bytes ts × IsAccepted (BreaksSyntax n ts) × SpellsModule ts m
+
+-- why they are no module of that name
+pub data BreaksSource (n : ℕ) (M bytes : List ℕ) : Refusal → Type 0 where
+  bad_characters : {r : _} → IsFirst (ByPlace (BreaksTokens n bytes)) r → BreaksSource n M bytes r
+  bad_slices : {ts r : _} → Tokens n bytes ts → IsFirst (BreaksSyntax n ts) r → BreaksSource n M bytes r
+  misnamed : {m : Module} → IsSource n bytes m → (header_name m.header).name ≢ M →
+      BreaksSource n M bytes (at_name R.NameMismatch (header_name m.header) [])
 
 -- what a flaw is called
 abbrev pub flaw_text : Flaw → List ℕ
@@ -71,89 +78,70 @@ flaw_text arity = codes "Arity"
 flaw_text index_type = codes "IndexType"
 flaw_text unproductive = codes "Unproductive"
 
--- the module is loaded
-abbrev pub IsLoaded : Loading → List ℕ → Type 0
-IsLoaded s M = (m : Module) × (module_named s.modules M ≡ Some m)
+-- why the bytes of a portable file are no grammar
+pub data BreaksPortable (file bytes : List ℕ) : Refusal → Type 0 where
+  at_field : {rule offset : _} → HasFault bytes rule offset →
+      BreaksPortable file bytes (placeless rule (file ∷ decimal offset ∷ []))
+  is_invalid : {flaw offset : _} → IsInvalid bytes flaw offset →
+      BreaksPortable file bytes (placeless R.Invalid (file ∷ decimal offset ∷ flaw_text flaw ∷ []))
 
 module _ (files : Files) where
-  -- the file is read as a module of that name, where it is the next to be loaded and nothing is broken in its slices
-  pub data Reads (s : Loading) (file M : List ℕ) : Module → Type 0 where
-    reads : {bytes ts : _} {m : Module} → get files file ≡ Some bytes → length bytes ≤ most_bytes →
-        Tokens (length s.files) bytes ts → IsAccepted (BreaksSyntax (length s.files) ts) → SpellsModule ts m →
-        (header_name m.header).name ≡ M → Reads s file M m
+  -- the file's bytes, at most so many
+  abbrev pub HasBytes : ℕ → List ℕ → List ℕ → Type 0
+  HasBytes most file bytes = (get files file ≡ Some bytes) × (length bytes ≤ most)
 
-  -- why it is not
-  pub data Fails (s : Loading) (file M : List ℕ) : Refusal → Type 0 where
-    missing : get files file ≡ None → Fails s file M (placeless R.MissingFile (file ∷ []))
-    too_long : {bytes : _} → get files file ≡ Some bytes → most_bytes < length bytes →
-        Fails s file M (placeless R.FileTooLong (file ∷ []))
-    bad_characters : {bytes r : _} → get files file ≡ Some bytes → length bytes ≤ most_bytes →
-        IsFirst (ByPlace (BreaksTokens (length s.files) bytes)) r → Fails s file M r
-    bad_slices : {bytes ts r : _} → get files file ≡ Some bytes → length bytes ≤ most_bytes → Tokens (length s.files) bytes ts →
-        IsFirst (BreaksSyntax (length s.files) ts) r → Fails s file M r
-    misnamed : {bytes ts : _} {m : Module} → get files file ≡ Some bytes → length bytes ≤ most_bytes →
-        Tokens (length s.files) bytes ts → IsAccepted (BreaksSyntax (length s.files) ts) → SpellsModule ts m →
-        (header_name m.header).name ≢ M →
-        Fails s file M (refusal R.NameMismatch (header_name m.header).place ((header_name m.header).name ∷ []))
+  -- why a file of at most so many bytes is refused, where broken says what is broken in these
+  pub data Fails (most : ℕ) (Broken : List ℕ → Refusal → Type 0) (file : List ℕ) : Refusal → Type 0 where
+    missing : get files file ≡ None → Fails most Broken file (placeless R.MissingFile (file ∷ []))
+    too_long : {bytes : _} → get files file ≡ Some bytes → most < length bytes →
+        Fails most Broken file (placeless R.FileTooLong (file ∷ []))
+    broken : {bytes r : _} → HasBytes most file bytes → Broken bytes r → Fails most Broken file r
 
   mutual
+    -- a module that is wanted: it is loaded already, there is no room for it, or it is loaded now
+    pub data Gets (folder : List ℕ) : List (List ℕ) → Loading → List ℕ → Outcome → Type 0 where
+      loaded_before : {waiting s M : _} → IsLoaded s M → Gets folder waiting s M (loaded s)
+      too_many : {waiting M : _} {s : Loading} → ¬ (IsLoaded s M) → 256 ≤ length s.files →
+          Gets folder waiting s M (refused (placeless R.TooManyModules []) s)
+      loaded_now : {waiting M o : _} {s : Loading} → ¬ (IsLoaded s M) → length s.files < 256 → Loads folder waiting s M o →
+          Gets folder waiting s M o
+
     -- a module is loaded from a folder, where others wait for it
     pub data Loads (folder : List ℕ) : List (List ℕ) → Loading → List ℕ → Outcome → Type 0 where
-      fails : {M waiting s r : _} → Fails s (file_in folder M) M r →
+      fails : {waiting M r : _} {s : Loading} → Fails most_bytes (BreaksSource (length s.files) M) (file_in folder M) r →
           Loads folder waiting s M (refused r (with_file s (file_in folder M)))
-      needs_refused : {M waiting s t m r : _} → Reads s (file_in folder M) M m →
+      needs_refused : {waiting bytes M r t : _} {s : Loading} {m : Module} → HasBytes most_bytes (file_in folder M) bytes →
+          IsSource (length s.files) bytes m → (header_name m.header).name ≡ M →
           LoadsAll folder (M ∷ waiting) (with_file s (file_in folder M)) (mentions m) (refused r t) →
           Loads folder waiting s M (refused r t)
-      complete : {M waiting s t m : _} → Reads s (file_in folder M) M m →
+      complete : {waiting bytes M : _} {s t : Loading} {m : Module} → HasBytes most_bytes (file_in folder M) bytes →
+          IsSource (length s.files) bytes m → (header_name m.header).name ≡ M →
           LoadsAll folder (M ∷ waiting) (with_file s (file_in folder M)) (mentions m) (loaded t) →
-          Loads folder waiting s M (loaded (with_module t m))
+          Loads folder waiting s M (loaded (record t { modules = t.modules ++ m ∷ [] }))
 
-    -- the modules that a header names, in their order, each once
+    -- the modules that a header names, in their order
     pub data LoadsAll (folder : List ℕ) : List (List ℕ) → Loading → List PlacedName → Outcome → Type 0 where
       no_more : {waiting s : _} → LoadsAll folder waiting s [] (loaded s)
-      loaded_before : {waiting s : _} {n : PlacedName} {ns o : _} → IsLoaded s n.name → LoadsAll folder waiting s ns o →
-          LoadsAll folder waiting s (n ∷ ns) o
-      waits_for_it : {waiting s : _} {n : PlacedName} {ns : _} → Contains waiting n.name →
-          LoadsAll folder waiting s (n ∷ ns) (refused (refusal R.ModuleCycle n.place (n.name ∷ [])) s)
-      too_many : {waiting s : _} {n : PlacedName} {ns : _} → ¬ (IsLoaded s n.name) → ¬ (Contains waiting n.name) → HasNoRoom s →
-          LoadsAll folder waiting s (n ∷ ns) (refused (placeless R.TooManyModules []) s)
-      next_refused : {waiting s t : _} {n : PlacedName} {ns r : _} → ¬ (IsLoaded s n.name) → ¬ (Contains waiting n.name) →
-          ¬ (HasNoRoom s) → Loads folder waiting s n.name (refused r t) → LoadsAll folder waiting s (n ∷ ns) (refused r t)
-      next_loaded : {waiting s t : _} {n : PlacedName} {ns o : _} → ¬ (IsLoaded s n.name) → ¬ (Contains waiting n.name) →
-          ¬ (HasNoRoom s) → Loads folder waiting s n.name (loaded t) → LoadsAll folder waiting t ns o →
-          LoadsAll folder waiting s (n ∷ ns) o
+      waits_for_it : {waiting s ns : _} {n : PlacedName} → Contains waiting n.name →
+          LoadsAll folder waiting s (n ∷ ns) (refused (at_name R.ModuleCycle n []) s)
+      next_refused : {waiting s t ns r : _} {n : PlacedName} → ¬ (Contains waiting n.name) →
+          Gets folder waiting s n.name (refused r t) → LoadsAll folder waiting s (n ∷ ns) (refused r t)
+      next_loaded : {waiting s t ns o : _} {n : PlacedName} → ¬ (Contains waiting n.name) →
+          Gets folder waiting s n.name (loaded t) → LoadsAll folder waiting t ns o → LoadsAll folder waiting s (n ∷ ns) o
 
-  -- why a portable file is refused
-  pub data FailsPortable (file : List ℕ) : Refusal → Type 0 where
-    no_file : get files file ≡ None → FailsPortable file (placeless R.MissingFile (file ∷ []))
-    long_file : {bytes : _} → get files file ≡ Some bytes → most_portable_bytes < length bytes →
-        FailsPortable file (placeless R.FileTooLong (file ∷ []))
-    at_field : {bytes rule offset : _} → get files file ≡ Some bytes → length bytes ≤ most_portable_bytes →
-        HasFault bytes rule offset → FailsPortable file (placeless rule (file ∷ decimal offset ∷ []))
-    is_invalid : {bytes flaw offset : _} → get files file ≡ Some bytes → length bytes ≤ most_portable_bytes →
-        IsInvalid bytes flaw offset → FailsPortable file (placeless R.Invalid (file ∷ decimal offset ∷ flaw_text flaw ∷ []))
-
-  -- the named files, in order: each source's module once, and each portable file
+  -- the named files, in order: the module of each source, and each portable file
   pub data LoadsNamed : Loading → List (List ℕ) → Outcome → Type 0 where
     none_named : {s : _} → LoadsNamed s [] (loaded s)
-    known : {s file rest o : _} → EndsIn source_ending file → IsLoaded s (base_of file) → LoadsNamed s rest o →
-        LoadsNamed s (file ∷ rest) o
-    no_room : {s file rest : _} → EndsIn source_ending file → ¬ (IsLoaded s (base_of file)) → HasNoRoom s →
-        LoadsNamed s (file ∷ rest) (refused (placeless R.TooManyModules []) s)
-    named_refused : {s t file rest r : _} → EndsIn source_ending file → ¬ (IsLoaded s (base_of file)) → ¬ (HasNoRoom s) →
-        Loads (folder_of file) [] s (base_of file) (refused r t) → LoadsNamed s (file ∷ rest) (refused r t)
-    named_loaded : {s t file rest o : _} → EndsIn source_ending file → ¬ (IsLoaded s (base_of file)) → ¬ (HasNoRoom s) →
-        Loads (folder_of file) [] s (base_of file) (loaded t) → LoadsNamed t rest o → LoadsNamed s (file ∷ rest) o
-    portable_refused : {s file rest r : _} → EndsIn portable_ending file → FailsPortable file r →
-        LoadsNamed s (file ∷ rest) (refused r s)
-    portable_read : {s file bytes g rest o : _} → EndsIn portable_ending file → get files file ≡ Some bytes →
-        length bytes ≤ most_portable_bytes → PortableFile.Reads bytes g → LoadsNamed s rest o → LoadsNamed s (file ∷ rest) o
+    source_refused : {s t file rest r : _} → EndsIn source_ending file →
+        Gets (folder_of file) [] s (base_of file) (refused r t) → LoadsNamed s (file ∷ rest) (refused r t)
+    source_loaded : {s t file rest o : _} → EndsIn source_ending file → Gets (folder_of file) [] s (base_of file) (loaded t) →
+        LoadsNamed t rest o → LoadsNamed s (file ∷ rest) o
+    portable_refused : {s file rest r : _} → EndsIn portable_ending file →
+        Fails most_portable_bytes (BreaksPortable file) file r → LoadsNamed s (file ∷ rest) (refused r s)
+    portable_read : {s file bytes g rest o : _} → EndsIn portable_ending file → HasBytes most_portable_bytes file bytes →
+        PortableFile.Reads bytes g → LoadsNamed s rest o → LoadsNamed s (file ∷ rest) o
 
--- before the first file
-abbrev pub nothing_loaded : Loading
-nothing_loaded = record { files = []; modules = [] }
-
--- the names of the loaded files by their numbers, as a refusal's place counts them
-pub data HasFiles (files : Files) (names : List (List ℕ)) : List (List ℕ) → Type 0 where
-  after_all : {s : Loading} → LoadsNamed files nothing_loaded names (loaded s) → HasFiles files names s.files
-  after_refusal : {s : Loading} {r : _} → LoadsNamed files nothing_loaded names (refused r s) → HasFiles files names s.files
+  -- the names of the loaded files by their numbers, as a refusal's place counts them
+  pub data HasFiles (names : List (List ℕ)) : List (List ℕ) → Type 0 where
+    after_all : {s : Loading} → LoadsNamed nothing_loaded names (loaded s) → HasFiles names s.files
+    after_refusal : {s : Loading} {r : _} → LoadsNamed nothing_loaded names (refused r s) → HasFiles names s.files
