@@ -11,7 +11,11 @@ use Rattle.gft_rules.specs.declared.rule.Rule.TheVariants.{UnknownCommand, BadOp
 use Rattle.gft_tree.specs.Grammar as grammar
 use Rattle.gft_tree.specs.Lexemes as lexeme
 use Rattle.gft_tree.specs.Spelling.{Spells}
-use Rattle.gft_model.specs.Commands.{Empty, Parse, Linearize, AbstractInfo, Argument, Nothing, command, Read, Pipe, Refused, refusal, parts, pipes_of, argument_of, bad_option, keys_of, IsArgument, files, of_empty, to_parse, to_linearize, unknown_command, option_refused, read, read_bare, none, more, refused, AreJoined, last, next, ReadsPipe, pipe, bad_pipe, pipe_refused, ReadsLine}
+use Rattle.gft_model.specs.Commands.{Verb, Empty, Parse, Linearize, AbstractInfo, Argument, Nothing, Command, Read, Pipe, Refused, refusal, parts, pipes_of, argument_of, bad_option, keys_of, IsArgument, files, of_empty, to_parse, to_linearize, bare, not_called, read, none, more, refused, AreJoined, last, next, ReadsPipe, pipe, bad_pipe, pipe_refused, ReadsLine}
+
+-- a command
+abbrev pub command : Verb → List (List ℕ) → Argument → Command
+command verb options argument = record { verb = verb; options = options; argument = argument }
 
 -- a semicolon in quotes does not cut, behind an escaped quote neither
 quotes : parts 59 (codes "p \"a;\\\";b\" ; e") ≡ codes "p \"a;\\\";b\" " ∷ codes " e" ∷ []
@@ -47,11 +51,11 @@ twice = refl
 
 -- `e`, and a name that is no command
 empties : ReadsPipe (codes " e ") (Pipe (command Empty [] Nothing ∷ []))
-empties = pipe (more (read (record { named = refl; good = refl }) of_empty) none) last
+empties = pipe (more (read refl of_empty) none) last
 
 unknown : ReadsPipe (codes " frob ") (Refused (refusal UnknownCommand (codes "frob" ∷ [])))
 unfolding lib.Utf8.encode
-unknown = pipe_refused (refused (unknown_command refl))
+unknown = pipe_refused (refused (not_called refl))
 
 -- a refused pipe stands between two others
 abbrev pub empty : Read
@@ -59,21 +63,21 @@ empty = Pipe (command Empty [] Nothing ∷ [])
 
 pub line : ReadsLine (codes "e ; frob ; e") (empty ∷ Refused (refusal UnknownCommand (codes "frob" ∷ [])) ∷ empty ∷ [])
 line =
-    let first : ReadsPipe (codes "e ") empty = pipe (more (read (record { named = refl; good = refl }) of_empty) none) last in
-    let third : ReadsPipe (codes " e") empty = pipe (more (read (record { named = refl; good = refl }) of_empty) none) last in
+    let first : ReadsPipe (codes "e ") empty = pipe (more (read refl of_empty) none) last in
+    let third : ReadsPipe (codes " e") empty = pipe (more (read refl of_empty) none) last in
     (first, (unknown, (third, tt)))
 
 hyphens : ReadsPipe (codes " -- x") (Refused (refusal UnknownCommand (codes "--" ∷ [])))
 unfolding lib.Utf8.encode
-hyphens = pipe_refused (refused (unknown_command refl))
+hyphens = pipe_refused (refused (not_called refl))
 
 -- a blank command beside a bar has the empty name
 blank_command : ReadsPipe (codes "| e") (Refused (refusal UnknownCommand ([] ∷ [])))
-blank_command = pipe_refused (refused (unknown_command refl))
+blank_command = pipe_refused (refused (not_called refl))
 
 too_deep : ReadsPipe (codes "p -depth=65 \"a\"") (Refused (refusal BadOption (codes "-depth=65" ∷ [])))
 unfolding is_xid_start is_xid_continue xid_start_ranges xid_continue_ranges in_ranges lib.Utf8.encode
-too_deep = pipe_refused (refused (option_refused refl refl))
+too_deep = pipe_refused (refused (not_called refl))
 
 -- `a` is a tree
 a_is_spelled : Spells (codes "a") (tree.App (codes "a") [])
@@ -87,13 +91,14 @@ a_is_spelled = (
 
 -- nothing follows on `linearize` but `parse` and `complete`
 not_joined : (argument : Argument) → ¬ AreJoined (command Linearize [] argument) (command AbstractInfo [] Nothing ∷ [])
-not_joined argument (next follows bare others) = elim follows [ ]
+not_joined argument (next follows nothing others) = elim follows [ ]
 
 informs : ReadsPipe (codes "l a | ai") (Refused (refusal BadPipe []))
-informs = bad_pipe (more (read (record { named = refl; good = refl }) (to_linearize a_is_spelled))
-    (more (read_bare (record { named = refl; good = refl }) refl refl) none)) (not_joined _)
+informs = bad_pipe (more (read refl (to_linearize a_is_spelled))
+    (more (read refl (bare refl)) none)) (not_joined _)
 
 -- a text stands between quotes
-no_text : {text : List ℕ} {a : Argument} → text ≡ codes "a" → ¬ IsArgument Parse text a
+no_text : {text : List ℕ} {a : Argument} → text ≡ codes "a" → ¬ IsArgument false Parse text a
 no_text e (to_parse inner k) = let first : true ≡ false = ap (λ cs. bytes_eq (take 1 cs) (codes "a")) (sym e ∙ k) in cc
 no_text e (files d) = elim d [ ]
+no_text e (bare l) = cc

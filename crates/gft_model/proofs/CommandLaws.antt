@@ -17,8 +17,7 @@ use Rattle.gft_tree.specs.Spelling.{Spells}
 use Rattle.gft_tree.specs.Trees.{quoted}
 use Rattle.gft_tree.proofs.AnswerLemmas.{spells_reads}
 use Rattle.gft_core.specs.declared.tree.Tree.{Tree}
-use Rattle.gft_model.specs.Commands as commands
-use Rattle.gft_model.specs.Commands.{Verb, Argument, Nothing, Files, Words, words_in, AreFileNames, of_import, of_write_portable, refusal, tree_rule, Command, Read, IsCalled, IsArgument, files, of_empty, of_quit, to_parse, to_complete, to_linearize, by_name, all, HasBadArgument, of_tree, other, ReadsCommand, unknown_command, option_refused, argument_refused, read, read_bare, InTurn, none, more, refused, refused_later, AreJoined, ReadsCommands, ReadsPipe, pipe, bad_pipe, pipe_refused, ReadsLine, argument_of, command, options_of, verb_of, bad_option, keys_of, pipes_of}
+use Rattle.gft_model.specs.Commands.{Verb, Argument, Nothing, Files, Given, a_tree, a_text, words_in, AreFileNames, of_import, of_write_portable, refusal, tree_rule, Command, Read, IsArgument, files, of_empty, of_quit, to_parse, to_complete, to_linearize, by_name, all, bare, HasBadArgument, of_tree, other, called, ReadsCommand, not_called, argument_refused, read, InTurn, none, more, refused, refused_later, AreJoined, ReadsCommands, ReadsPipe, pipe, bad_pipe, pipe_refused, ReadsLine, argument_of, options_of, pipes_of}
 
 -- what each gives in turn is determined where each by itself is
 pub in_turn_once : {A B : Type 0} {R : A → Result B Refusal → Type 0}
@@ -99,41 +98,26 @@ quoted_once : (v w : List ℕ) → quoted v ≡ quoted w → v ≡ w
 quoted_once v w e = let h = sym (inner_of v) ∙ ap (λ q. inner (drop 1 q)) e ∙ inner_of w in cc
 
 -- the argument of a command
-files_once : {verb : Verb} {names : List (List ℕ)} {text : List ℕ} {b : Argument} → AreFileNames verb names
-    → IsArgument verb text b → b ≡ Files (words_in text)
-files_once (of_import h) (files e) = refl
-files_once (of_write_portable h) (files e) = refl
-
-argument_once : {verb : Verb} {text : List ℕ} {a b : Argument} → IsArgument verb text a → IsArgument verb text b → a ≡ b
-argument_once (files d) e = sym (files_once d e)
-argument_once d (files e) = files_once e d
-argument_once of_empty of_empty = refl
-argument_once of_quit of_quit = refl
-argument_once (to_parse v e) (to_parse w f) = ap (λ u. Words (words_in u)) (quoted_once v w (sym e ∙ f))
-argument_once (to_complete v e) (to_complete w f) = ap (λ u. Words (words_in u)) (quoted_once v w (sym e ∙ f))
-argument_once (to_linearize s) (to_linearize t) = ap commands.Tree (tree_once s t)
-argument_once (by_name n) (by_name m) = refl
-argument_once (by_name n) all = cc
-argument_once all (by_name n) = cc
-argument_once all all = refl
-
-bad_once : {verb : Verb} {text : List ℕ} {r s : Refusal} → HasBadArgument verb text r → HasBadArgument verb text s → r ≡ s
-bad_once (of_tree d) (of_tree e) = ap (λ f. refusal (tree_rule f) (decimal (place_of f) ∷ [])) (fault_once d e)
-bad_once (of_tree d) (other n never) = absurd (n refl)
-bad_once (other n never) (of_tree e) = absurd (n refl)
-bad_once (other n never) (other m nothing) = refl
-
-not_both : {verb : Verb} {text : List ℕ} {a : Argument} {r : Refusal} → IsArgument verb text a → ¬ HasBadArgument verb text r
-not_both d (other n never) = never _ d
-not_both (to_linearize s) (of_tree e) = e.unread _ s
-not_both (files d) (of_tree e) = elim d [ ]
+files_once : {later : Bool} {verb : Verb} {names : List (List ℕ)} {text : List ℕ} {b : Argument} → AreFileNames verb names
+    → IsArgument later verb text b → text ≢ [] → b ≡ Files (words_in text)
+files_once (of_import h) (files e) n = refl
+files_once (of_write_portable h) (files e) n = refl
+files_once h (bare l) n = absurd (n refl)
+files_once h of_empty n = elim h [ ]
+files_once h of_quit n = elim h [ ]
+files_once h (to_parse w e) n = elim h [ ]
+files_once h (to_complete w e) n = elim h [ ]
+files_once h (to_linearize s) n = elim h [ ]
+files_once h (by_name e) n = elim h [ ]
+files_once h all n = elim h [ ]
 
 -- an argument of no characters is nothing
 some_names : {verb : Verb} {names : List (List ℕ)} → AreFileNames verb names → names ≢ []
 some_names (of_import h) e = cc
 some_names (of_write_portable h) e = cc
 
-nothing_written : {verb : Verb} {text : List ℕ} {a : Argument} → text ≡ [] → IsArgument verb text a → a ≡ Nothing
+nothing_written : {later : Bool} {verb : Verb} {text : List ℕ} {a : Argument} → text ≡ [] → IsArgument later verb text a
+    → a ≡ Nothing
 nothing_written e (files d) = absurd (some_names d (ap words_in e))
 nothing_written e of_empty = refl
 nothing_written e of_quit = refl
@@ -143,65 +127,62 @@ nothing_written {text = text} e (to_linearize s) =
     let h = ap (λ x. read_on (bytes x) start x) (sym e) ∙ spells_reads text _ s in cc
 nothing_written e (by_name n) = let h = ap spells_name (sym e) ∙ n in cc
 nothing_written e all = refl
+nothing_written e (bare l) = refl
 
--- a command is called by one verb, and its options are good or bad
-verb_once : {text : List ℕ} {v w : Verb} → IsCalled text v → IsCalled text w → v ≡ w
-verb_once c d = let a = c.named in let b = d.named in cc
+no_words : {text : List ℕ} {verb : Verb} → AreFileNames verb (words_in text) → text ≢ []
+no_words d e = some_names d (ap words_in e)
 
-not_bad : {text : List ℕ} {v w : Verb} {word : List ℕ} → IsCalled text v → verb_of text ≡ Some w
-    → bad_option (keys_of w) (options_of text) ≡ Some word → ⊥
-not_bad c named bad = let a = c.named in let b = c.good in cc
+argument_once : {later : Bool} {verb : Verb} {text : List ℕ} {a b : Argument} → IsArgument later verb text a
+    → IsArgument later verb text b → a ≡ b
+argument_once (files d) e = sym (files_once d e (no_words d))
+argument_once d (files e) = files_once e d (no_words e)
+argument_once of_empty e = sym (nothing_written refl e)
+argument_once of_quit e = sym (nothing_written refl e)
+argument_once all e = sym (nothing_written refl e)
+argument_once (bare l) e = sym (nothing_written refl e)
+argument_once d all = nothing_written refl d
+argument_once d (bare l) = nothing_written refl d
+argument_once (to_parse v e) (to_parse w f) = ap (λ u. Given (a_text (words_in u))) (quoted_once v w (sym e ∙ f))
+argument_once (to_complete v e) (to_complete w f) = ap (λ u. Given (a_text (words_in u))) (quoted_once v w (sym e ∙ f))
+argument_once (to_linearize s) (to_linearize t) = ap (λ u. Given (a_tree u)) (tree_once s t)
+argument_once (by_name n) (by_name m) = refl
 
--- what a text is read as, where its verb is known
-data OfVerb (later : Bool) (text : List ℕ) (verb : Verb) : Result Command Refusal → Type 0 where
-  bad : {r : Refusal} → (later ≡ true → argument_of text ≢ []) → HasBadArgument verb (argument_of text) r
-      → OfVerb later text verb (Err r)
-  good : {a : Argument} → IsArgument verb (argument_of text) a → OfVerb later text verb (Ok (command verb (options_of text) a))
-  bare : later ≡ true → argument_of text ≡ [] → OfVerb later text verb (Ok (command verb (options_of text) Nothing))
+bad_once : {later : Bool} {verb : Verb} {text : List ℕ} {r s : Refusal} → HasBadArgument later verb text r
+    → HasBadArgument later verb text s → r ≡ s
+bad_once (of_tree l d) (of_tree m e) = ap (λ f. refusal (tree_rule f) (decimal (place_of f) ∷ [])) (fault_once d e)
+bad_once (of_tree l d) (other n never) = absurd (n refl)
+bad_once (other n never) (of_tree l e) = absurd (n refl)
+bad_once (other n never) (other m nothing) = refl
 
-of_verb : {later : Bool} {text : List ℕ} {verb : Verb} {p : Result Command Refusal} → IsCalled text verb
-    → ReadsCommand later text p → OfVerb later text verb p
-of_verb c (unknown_command e) = let a = c.named in cc
-of_verb c (option_refused e f) = absurd (not_bad c e f)
-of_verb {later} {text} c (argument_refused {r} d l b) =
-    bad l (subst (λ v. HasBadArgument v (argument_of text) r) (verb_once d c) b)
-of_verb {later} {text} c (read {verb = v} {a} d b) =
-    subst (λ w. OfVerb later text w (Ok (command v (options_of text) a))) (verb_once d c) (good b)
-of_verb {later} {text} c (read_bare {verb = v} d l e) =
-    subst (λ w. OfVerb later text w (Ok (command v (options_of text) Nothing))) (verb_once d c) (bare l e)
+not_both : {later : Bool} {verb : Verb} {text : List ℕ} {a : Argument} {r : Refusal} → IsArgument later verb text a
+    → ¬ HasBadArgument later verb text r
+not_both d (other n never) = never _ d
+not_both (to_linearize s) (of_tree l e) = e.unread _ s
+not_both (files d) (of_tree l e) = elim d [ ]
+not_both (bare m) (of_tree l e) = l m refl
 
-of_verb_once : {later : Bool} {text : List ℕ} {verb : Verb} {p q : Result Command Refusal} → OfVerb later text verb p
-    → OfVerb later text verb q → p ≡ q
-of_verb_once (bad l b) (bad m c) = ap Err (bad_once b c)
-of_verb_once (bad l b) (good c) = absurd (not_both c b)
-of_verb_once (bad l b) (bare m e) = absurd (l m e)
-of_verb_once (good b) (bad m c) = absurd (not_both b c)
-of_verb_once {text = text} {verb = verb} (good b) (good c) = ap (λ a. Ok (command verb (options_of text) a)) (argument_once b c)
-of_verb_once {text = text} {verb = verb} (good b) (bare m e) =
-    ap (λ a. Ok (command verb (options_of text) a)) (nothing_written e b)
-of_verb_once (bare l e) (bad m c) = absurd (m l e)
-of_verb_once {text = text} {verb = verb} (bare l e) (good c) =
-    ap (λ a. Ok (command verb (options_of text) a)) (sym (nothing_written e c))
-of_verb_once (bare l e) (bare m f) = refl
+-- a command is called by one verb
+verb_once : (text : List ℕ) {v w : Verb} → called text ≡ Ok v → called text ≡ Ok w → v ≡ w
+verb_once text d e = cc
 
 command_once : {later : Bool} {text : List ℕ} {p q : Result Command Refusal} → ReadsCommand later text p
     → ReadsCommand later text q → p ≡ q
-command_once (unknown_command e) (unknown_command f) = refl
-command_once (unknown_command e) (option_refused f g) = cc
-command_once (unknown_command e) (argument_refused d m c) = let a = d.named in cc
-command_once (unknown_command e) (read d c) = let a = d.named in cc
-command_once (unknown_command e) (read_bare d m c) = let a = d.named in cc
-command_once (option_refused e f) (unknown_command g) = cc
-command_once {text = text} (option_refused {verb = v} {word} e f) (option_refused {verb = w} {word = again} g h) =
-    let verbs : v ≡ w = let x = sym e ∙ g in cc in
-    let words = sym f ∙ ap (λ u. bad_option (keys_of u) (options_of text)) verbs ∙ h in
-    let same : word ≡ again = cc in ap (λ x. Err (refusal BadOption (encode_utf8_all x ∷ []))) same
-command_once (option_refused e f) (argument_refused d m c) = absurd (not_bad d e f)
-command_once (option_refused e f) (read d c) = absurd (not_bad d e f)
-command_once (option_refused e f) (read_bare d m c) = absurd (not_bad d e f)
-command_once (argument_refused d l b) y = of_verb_once (bad l b) (of_verb d y)
-command_once (read d b) y = of_verb_once (good b) (of_verb d y)
-command_once (read_bare d l b) y = of_verb_once (bare l b) (of_verb d y)
+command_once (not_called {r} d) (not_called {r = s} e) = let same : r ≡ s = cc in ap Err same
+command_once (not_called d) (argument_refused e b) = cc
+command_once (not_called d) (read e b) = cc
+command_once (argument_refused d b) (not_called e) = cc
+command_once {later} {text} (argument_refused {r} d b) (argument_refused {verb = w} e c) =
+    ap Err (bad_once (subst (λ v. HasBadArgument later v (argument_of text) r) (verb_once text d e) b) c)
+command_once {later} {text} (argument_refused {r} d b) (read e c) =
+    absurd (not_both c (subst (λ v. HasBadArgument later v (argument_of text) r) (verb_once text d e) b))
+command_once (read d b) (not_called e) = cc
+command_once {later} {text} (read {argument} d b) (argument_refused e c) =
+    absurd (not_both (subst (λ v. IsArgument later v (argument_of text) argument) (verb_once text d e) b) c)
+command_once {later} {text} (read {verb} {argument} d b) (read {verb = w} {argument = second} e c) =
+    let verbs = verb_once text d e in
+    let arguments = argument_once (subst (λ v. IsArgument later v (argument_of text) argument) verbs b) c in
+    ap (λ v. Ok (record { verb = v; options = options_of text; argument = argument })) verbs
+    ∙ ap (λ a. Ok (record { verb = w; options = options_of text; argument = a })) arguments
 
 -- a pipe
 joined_once : {c d : Command} {cs ds : List Command} {p q : Result (List Command) Refusal} → p ≡ Ok (c ∷ cs) → q ≡ Ok (d ∷ ds)

@@ -13,7 +13,7 @@ use Rattle.gft_tree.specs.Reading.{read_on, start}
 use Rattle.gft_tree.specs.Trees.{quoted}
 use Rattle.gft_tree.specs.declared.error.TreeErr.{TreeErr}
 use Rattle.gft_tree.proofs.AnswerLemmas.{is_read, is_refused}
-use Rattle.gft_model.specs.Commands.{Verb, Import, Empty, Quit, Parse, Linearize, Complete, AbstractInfo, WritePortable, Argument, Nothing, Files, Words, Name, Command, Read, words_in, EndsIn, source_ending, portable_ending, IsFileName, AreFileNames, of_import, of_write_portable, IsArgument, files, of_empty, of_quit, to_parse, to_complete, to_linearize, by_name, all, HasBadArgument, of_tree, other, IsCalled, ReadsCommand, unknown_command, option_refused, argument_refused, read, read_bare, InTurn, none, more, refused, refused_later, TakesUp, AreJoined, last, next, in_pipe, commands_of, parts, quoted_parts, kept_parts, ReadsCommands, ReadsPipe, pipe, bad_pipe, pipe_refused, pipes_of, ReadsLine, verb_of, bad_option, keys_of, options_of, argument_of}
+use Rattle.gft_model.specs.Commands.{Verb, Import, Empty, Quit, Parse, Linearize, Complete, AbstractInfo, WritePortable, Argument, Nothing, Files, Given, Name, Command, Read, words_in, EndsIn, source_ending, portable_ending, IsFileName, AreFileNames, of_import, of_write_portable, IsArgument, files, of_empty, of_quit, to_parse, to_complete, to_linearize, by_name, all, bare, HasBadArgument, of_tree, other, called, ReadsCommand, not_called, argument_refused, read, InTurn, none, more, refused, refused_later, TakesUp, AreJoined, last, next, in_pipe, commands_of, parts, quoted_parts, kept_parts, ReadsCommands, ReadsPipe, pipe, bad_pipe, pipe_refused, pipes_of, ReadsLine, argument_of}
 use Rattle.gft_model.specs.Commands as commands
 use Rattle.gft_model.proofs.CommandLaws.{inner, inner_of}
 
@@ -87,98 +87,98 @@ write_names (n ∷ []) = ⊎_elim {C = Decided (AreFileNames WritePortable (n �
       ending_of (of_write_portable e) = e
 
 -- a text is an argument of a command, or it is refused as one
-abbrev Told : Verb → List ℕ → Type 0
-Told verb text = ((a : Argument) × IsArgument verb text a) ⊎ ((r : Refusal) × HasBadArgument verb text r)
+abbrev Told : Bool → Verb → List ℕ → Type 0
+Told later verb text = ((a : Argument) × IsArgument later verb text a) ⊎ ((r : Refusal) × HasBadArgument later verb text r)
 
-import_told : (text : List ℕ) → Told Import text
-import_told text = ⊎_elim {C = Told Import text} (λ d. inl (Files (words_in text), files d))
-    (λ n. inr (_, other (λ e. cc) (λ a d. n (names_of d)))) (import_names (words_in text)) where
-      names_of : {a : Argument} → IsArgument Import text a → AreFileNames Import (words_in text)
-      names_of (files d) = d
+-- a text that must be written, as a first command of a pipe wants it
+module _ (later : Bool) where
+  abbrev IsWritten : List ℕ → Type 0
+  IsWritten text = later ≡ true → text ≢ []
 
-write_told : (text : List ℕ) → Told WritePortable text
-write_told text = ⊎_elim {C = Told WritePortable text} (λ d. inl (Files (words_in text), files d))
-    (λ n. inr (_, other (λ e. cc) (λ a d. n (names_of d)))) (write_names (words_in text)) where
-      names_of : {a : Argument} → IsArgument WritePortable text a → AreFileNames WritePortable (words_in text)
-      names_of (files d) = d
+  import_told : (text : List ℕ) → IsWritten text → Told later Import text
+  import_told text l = ⊎_elim {C = Told later Import text} (λ d. inl (Files (words_in text), files d))
+      (λ n. inr (_, other (λ e. cc) (λ a d. n (names_of l d)))) (import_names (words_in text)) where
+        names_of : {text : List ℕ} {a : Argument} → IsWritten text → IsArgument later Import text a → AreFileNames Import (words_in text)
+        names_of l (files d) = d
+        names_of l (bare m) = absurd (l m refl)
 
-empty_told : (text : List ℕ) → Told Empty text
-empty_told [] = inl (Nothing, of_empty)
-empty_told (c ∷ cs) = inr (_, other (λ e. cc) (λ a d. never d)) where
-  never : {a : Argument} → ¬ IsArgument Empty (c ∷ cs) a
-  never (files d) = elim d [ ]
+  write_told : (text : List ℕ) → IsWritten text → Told later WritePortable text
+  write_told text l = ⊎_elim {C = Told later WritePortable text} (λ d. inl (Files (words_in text), files d))
+      (λ n. inr (_, other (λ e. cc) (λ a d. n (names_of l d)))) (write_names (words_in text)) where
+        names_of : {text : List ℕ} {a : Argument} → IsWritten text → IsArgument later WritePortable text a
+            → AreFileNames WritePortable (words_in text)
+        names_of l (files d) = d
+        names_of l (bare m) = absurd (l m refl)
 
-quit_told : (text : List ℕ) → Told Quit text
-quit_told [] = inl (Nothing, of_quit)
-quit_told (c ∷ cs) = inr (_, other (λ e. cc) (λ a d. never d)) where
-  never : {a : Argument} → ¬ IsArgument Quit (c ∷ cs) a
-  never (files d) = elim d [ ]
+  empty_told : (text : List ℕ) → Told later Empty text
+  empty_told [] = inl (Nothing, of_empty)
+  empty_told (c ∷ cs) = inr (_, other (λ e. cc) (λ a d. never d)) where
+    never : {a : Argument} → ¬ IsArgument later Empty (c ∷ cs) a
+    never (files d) = elim d [ ]
 
-parse_told : (text : List ℕ) → Told Parse text
-parse_told text = ⊎_elim {C = Told Parse text} (λ q. inl (_, to_parse q.0 q.1))
-    (λ n. inr (_, other (λ e. cc) (λ a d. never n d))) (quoted_or_not text) where
-      never : ((w : List ℕ) → text ≢ quoted w) → {a : Argument} → ¬ IsArgument Parse text a
-      never n (files d) = elim d [ ]
-      never n (to_parse w e) = n w e
+  quit_told : (text : List ℕ) → Told later Quit text
+  quit_told [] = inl (Nothing, of_quit)
+  quit_told (c ∷ cs) = inr (_, other (λ e. cc) (λ a d. never d)) where
+    never : {a : Argument} → ¬ IsArgument later Quit (c ∷ cs) a
+    never (files d) = elim d [ ]
 
-complete_told : (text : List ℕ) → Told Complete text
-complete_told text = ⊎_elim {C = Told Complete text} (λ q. inl (_, to_complete q.0 q.1))
-    (λ n. inr (_, other (λ e. cc) (λ a d. never n d))) (quoted_or_not text) where
-      never : ((w : List ℕ) → text ≢ quoted w) → {a : Argument} → ¬ IsArgument Complete text a
-      never n (files d) = elim d [ ]
-      never n (to_complete w e) = n w e
+  parse_told : (text : List ℕ) → IsWritten text → Told later Parse text
+  parse_told text l = ⊎_elim {C = Told later Parse text} (λ q. inl (_, to_parse q.0 q.1))
+      (λ n. inr (_, other (λ e. cc) (λ a d. never l n d))) (quoted_or_not text) where
+        never : {text : List ℕ} → IsWritten text → ((w : List ℕ) → text ≢ quoted w) → {a : Argument} → ¬ IsArgument later Parse text a
+        never l n (files d) = elim d [ ]
+        never l n (to_parse w e) = n w e
+        never l n (bare m) = l m refl
 
-linearize_told : (text : List ℕ) → Told Linearize text
-linearize_told text = by_result (read_on (bytes text) start text) refl where
-  by_result : (o : Result Tree TreeErr) → read_on (bytes text) start text ≡ o → Told Linearize text
-  by_result (Ok t) e = inl (_, to_linearize (is_read text t e).spelled)
-  by_result (Err f) e = inr (_, of_tree (is_refused text f e))
+  complete_told : (text : List ℕ) → IsWritten text → Told later Complete text
+  complete_told text l = ⊎_elim {C = Told later Complete text} (λ q. inl (_, to_complete q.0 q.1))
+      (λ n. inr (_, other (λ e. cc) (λ a d. never l n d))) (quoted_or_not text) where
+        never : {text : List ℕ} → IsWritten text → ((w : List ℕ) → text ≢ quoted w) → {a : Argument}
+            → ¬ IsArgument later Complete text a
+        never l n (files d) = elim d [ ]
+        never l n (to_complete w e) = n w e
+        never l n (bare m) = l m refl
 
-info_told : (text : List ℕ) → Told AbstractInfo text
-info_told [] = inl (Nothing, all)
-info_told (c ∷ cs) = by_test (spells_name (c ∷ cs)) refl where
-  never : spells_name (c ∷ cs) ≡ false → {a : Argument} → ¬ IsArgument AbstractInfo (c ∷ cs) a
-  never e (files d) = elim d [ ]
-  never e (by_name n) = let h = sym e ∙ n in cc
+  linearize_told : (text : List ℕ) → IsWritten text → Told later Linearize text
+  linearize_told text l = by_result (read_on (bytes text) start text) refl where
+    by_result : (o : Result Tree TreeErr) → read_on (bytes text) start text ≡ o → Told later Linearize text
+    by_result (Ok t) e = inl (_, to_linearize (is_read text t e).spelled)
+    by_result (Err f) e = inr (_, of_tree l (is_refused text f e))
 
-  by_test : (b : Bool) → spells_name (c ∷ cs) ≡ b → Told AbstractInfo (c ∷ cs)
-  by_test true e = inl (_, by_name e)
-  by_test false e = inr (_, other (λ f. cc) (λ a d. never e d))
+  info_told : (text : List ℕ) → Told later AbstractInfo text
+  info_told [] = inl (Nothing, all)
+  info_told (c ∷ cs) = by_test (spells_name (c ∷ cs)) refl where
+    never : spells_name (c ∷ cs) ≡ false → {a : Argument} → ¬ IsArgument later AbstractInfo (c ∷ cs) a
+    never e (files d) = elim d [ ]
+    never e (by_name n) = let h = sym e ∙ n in cc
 
-told : (verb : Verb) (text : List ℕ) → Told verb text
-told Import text = import_told text
-told Empty text = empty_told text
-told Quit text = quit_told text
-told Parse text = parse_told text
-told Linearize text = linearize_told text
-told Complete text = complete_told text
-told AbstractInfo text = info_told text
-told WritePortable text = write_told text
+    by_test : (b : Bool) → spells_name (c ∷ cs) ≡ b → Told later AbstractInfo (c ∷ cs)
+    by_test true e = inl (_, by_name e)
+    by_test false e = inr (_, other (λ f. cc) (λ a d. never e d))
+
+  written_told : (verb : Verb) (text : List ℕ) → IsWritten text → Told later verb text
+  written_told Import text l = import_told text l
+  written_told Empty text l = empty_told text
+  written_told Quit text l = quit_told text
+  written_told Parse text l = parse_told text l
+  written_told Linearize text l = linearize_told text l
+  written_told Complete text l = complete_told text l
+  written_told AbstractInfo text l = info_told text
+  written_told WritePortable text l = write_told text l
+
+told : (later : Bool) (verb : Verb) (text : List ℕ) → Told later verb text
+told true verb [] = inl (Nothing, bare refl)
+told true verb (c ∷ cs) = written_told true verb (c ∷ cs) (λ l e. cc)
+told false verb text = written_told false verb text (λ l. cc)
 
 -- EVERY COMMAND, PIPE AND LINE IS READ
 
 command_read : (later : Bool) (text : List ℕ) → (p : Result Command Refusal) × ReadsCommand later text p
-command_read later text = by_verb (verb_of text) refl where
-  by_argument : (verb : Verb) → IsCalled text verb → (later ≡ true → argument_of text ≢ [])
-      → (p : Result Command Refusal) × ReadsCommand later text p
-  by_argument verb c l = ⊎_elim {C = (p : Result Command Refusal) × ReadsCommand later text p} (λ a. (_, read c a.1))
-      (λ r. (_, argument_refused c l r.1)) (told verb (argument_of text))
-
-  by_length : (verb : Verb) → IsCalled text verb → (b : Bool) → later ≡ b → (t : List ℕ) → argument_of text ≡ t
-      → (p : Result Command Refusal) × ReadsCommand later text p
-  by_length verb c true l [] e = (_, read_bare c l e)
-  by_length verb c true l (x ∷ t) e = by_argument verb c (λ k f. let h = sym e ∙ f in cc)
-  by_length verb c false l t e = by_argument verb c (λ k. let h = sym l ∙ k in cc)
-
-  by_options : (verb : Verb) → verb_of text ≡ Some verb → (o : Option (List ℕ))
-      → bad_option (keys_of verb) (options_of text) ≡ o
-      → (p : Result Command Refusal) × ReadsCommand later text p
-  by_options verb e (Some word) f = (_, option_refused e f)
-  by_options verb e None f = by_length verb (record { named = e; good = f }) later refl (argument_of text) refl
-
-  by_verb : (o : Option Verb) → verb_of text ≡ o → (p : Result Command Refusal) × ReadsCommand later text p
-  by_verb None e = (_, unknown_command e)
-  by_verb (Some verb) e = by_options verb e (bad_option (keys_of verb) (options_of text)) refl
+command_read later text = by_call (called text) refl where
+  by_call : (o : Result Verb Refusal) → called text ≡ o → (p : Result Command Refusal) × ReadsCommand later text p
+  by_call (Err r) e = (_, not_called e)
+  by_call (Ok verb) e = ⊎_elim {C = (p : Result Command Refusal) × ReadsCommand later text p} (λ a. (_, read e a.1))
+      (λ r. (_, argument_refused e r.1)) (told later verb (argument_of text))
 
 in_turn : {A B : Type 0} {R : A → Result B Refusal → Type 0} → ((x : A) → (p : Result B Refusal) × R x p) → (xs : List A)
     → (p : Result (List B) Refusal) × InTurn R xs p
@@ -241,8 +241,7 @@ takes_up_or_not Linearize WritePortable = inr (λ d. elim d [ ])
 bare_or_not : (a : Argument) → Decided (a ≡ Nothing)
 bare_or_not Nothing = inl refl
 bare_or_not (Files names) = inr (λ e. cc)
-bare_or_not (Words words) = inr (λ e. cc)
-bare_or_not (commands.Tree t) = inr (λ e. cc)
+bare_or_not (Given item) = inr (λ e. cc)
 bare_or_not (Name name) = inr (λ e. cc)
 
 joined_or_not : (c : Command) (cs : List Command) → Decided (AreJoined c cs)

@@ -17,9 +17,10 @@ use Rattle.gft_tree.specs.Lexemes as lexeme
 use Rattle.gft_tree.specs.Spelling.{Spells}
 use Rattle.gft_model.specs.Brackets.{Piece, erased}
 use Rattle.gft_model.specs.Commands as commands
-use Rattle.gft_model.specs.Commands.{Linearize, Argument, Command, Read, Pipe, command, ReadsPipe, to_linearize, InTurn}
+use Rattle.gft_model.specs.Commands.{Linearize, Given, a_tree, Command, Pipe, ReadsPipe, to_linearize}
 use Rattle.gft_model.specs.Listing.{Language}
-use Rattle.gft_model.specs.Replies.{IsBefore, AreTexts, linearized, next, done}
+use Rattle.gft_model.specs.Listing.{IsBefore}
+use Rattle.gft_model.specs.Replies.{AreTexts, linearized, next, done}
 use Rattle.gft_model.specs.Runs.{Strings, filled}
 use Rattle.gft_model.specs.Shell as shell
 use Rattle.gft_model.specs.Shell.{Held, replying, LacksFirst, Does, IsAnswer}
@@ -86,10 +87,10 @@ dup_is_spelled = (
 )
 
 abbrev linearizes : Command
-linearizes = command Linearize [] (commands.Tree dup_a)
+linearizes = record { verb = Linearize; options = []; argument = Given (a_tree dup_a) }
 
 line : ReadsPipe (codes "l Dup A") (Pipe (linearizes ∷ []))
-line = commands.pipe (commands.more (commands.read (record { named = refl; good = refl }) (to_linearize dup_is_spelled))
+line = commands.pipe (commands.more (commands.read refl (to_linearize dup_is_spelled))
     commands.none) commands.last
 
 abbrev loaded : Loaded
@@ -111,7 +112,7 @@ answered : (S : Sources) (files : Files) → IsAnswer S (record { state = Some l
     (replying (record { state = Some loaded; files = files }) (codes "a a" ∷ codes "b b" ∷ []))
 unfolding chars lib.Utf8.encode
 answered S files =
-    shell.read (omega arith) (codes "l Dup A", (refl, refl)) (line, tt)
-    (shell.more (shell.done lacks_nothing (shell.runs refl refl refl
-    (next _ (commands.more (linearized (texts ∷ []) refl (dup_a, solution) refl (are_texts, tt)) commands.none) done)))
-    refl shell.none)
+    (shell.read (omega arith) (codes "l Dup A", (refl, refl)) (line, tt)
+    (shell.more (shell.runs lacks_nothing refl refl
+    (next _ (commands.more (linearized (texts ∷ []) refl (dup_a, solution) refl (are_texts, tt)) commands.none) done))
+    refl shell.none), refl)

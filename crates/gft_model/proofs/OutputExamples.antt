@@ -1,14 +1,15 @@
 -- Worked examples of whole runs.
-use Rattle.std.proofs.Common.{refl, ap, ◌∙◌, ℕ, List, [], ◌∷◌, ◌++◌, true, arith, ⊎_elim, length-append}
+use Rattle.std.proofs.Common.{refl, ap, ◌∙◌, ℕ, List, [], ◌∷◌, ◌++◌, true, false, arith, ⊎_elim, length-append}
 use Rattle.std.specs.Prelude.{codes, length}
 use Rattle.std.specs.Fmt.{digits}
 use Rattle.std.specs.Str.{chars}
 use lib.Utf8
 use Rattle.gft_io.specs.Outside.{Files}
 use Rattle.gft_model.specs.Commands as commands
-use Rattle.gft_model.specs.Commands.{Import, Quit, Nothing, Pipe, AreFileNames, of_import, source_ending, portable_ending, command}
-use Rattle.gft_model.specs.Output.{none, a_file, only_files, an_out, an_out_is, a_count, Mode, make, Asks, for_session, to_make, for_workload, usage_line, plain, bad_name, Output, wrong_call, counted, lines, file_lines, end, quit, next}
+use Rattle.gft_model.specs.Commands.{Import, Quit, AreFileNames, of_import, source_ending, portable_ending}
+use Rattle.gft_model.specs.Output.{none, a_file, only_files, an_out, an_out_is, a_count, Mode, make, Asks, for_session, to_make, for_workload, usage_line, unbegun, bad_names, Output, wrong_call, counted, lines, file_lines}
 use Rattle.gft_model.specs.Shell as shell
+use Rattle.gft_model.specs.Shell.{replying}
 use Rattle.gft_model.specs.States.{Sources}
 use Rattle.gft_model.proofs.ShellExamples.{quits_first}
 
@@ -38,7 +39,7 @@ no_files (to_make (an_out is d)) = elim d [ ]
 no_files (for_workload d count) = elim d [ ]
 
 usage : (S : Sources) (input : List ℕ) (files : Files)
-    → Output S (gfs ∷ codes "--make" ∷ codes "T.gft" ∷ []) input files (plain (usage_line ∷ []) files)
+    → Output S (gfs ∷ codes "--make" ∷ codes "T.gft" ∷ []) input files (replying (unbegun files) (usage_line ∷ []) ∷ [])
 usage S input files = wrong_call (λ mode asks. no_files asks)
 
 -- so is a workload of no sentence
@@ -49,8 +50,7 @@ no_sentence (for_workload (a_count is none) count) = cc
 
 -- a workload of 200 sentences
 sentences : (S : Sources) (input : List ℕ) (files : Files) → Output S (gfs ∷ codes "--workload" ∷ codes "200" ∷ []) input files
-    (plain ((codes "sentences 200" ++ 10 ∷ codes "words 8000" ++ 10 ∷ codes "trees 3200" ++ 10 ∷ codes "same 3200" ++ 10 ∷ [])
-    ∷ []) files)
+    (replying (unbegun files) (codes "sentences 200" ∷ codes "words 8000" ∷ codes "trees 3200" ∷ codes "same 3200" ∷ []) ∷ [])
 unfolding digits
 sentences S input files = counted (for_workload (a_count refl none) refl)
 
@@ -60,27 +60,27 @@ other_ending (of_import ends) = ⊎_elim {C = ⊥} (λ e. absurd (omega (arith, 
     (λ e. absurd (omega (arith, ap length e.1 ∙ length-append e.0 portable_ending))) (ends 0 [] (omega arith))
 
 refused_file : (S : Sources) (files : Files) → Output S (gfs ∷ codes "a" ∷ []) [] files (record {
-  replies = (codes "refused BadArgument" ++ 10 ∷ []) ∷ [];
+  reply = codes "refused BadArgument" ++ 10 ∷ [];
   refused = true;
   failures = 0;
-  files = files;
-})
-refused_file S files =
-    file_lines (for_session (a_file refl none)) (record { pipe = _; is = bad_name other_ending; steps = shell.refused }) end
+  ends = false;
+  after = unbegun files;
+} ∷ [])
+refused_file S files = file_lines (for_session (a_file refl none)) (bad_names other_ending) shell.none
 
 -- a session without files: the line behind `quit` is not answered
 short : (S : Sources) (files : Files) → Output S (gfs ∷ []) (codes "frob" ++ 10 ∷ codes "q" ++ 10 ∷ codes "e") files
     (record {
-      replies = (codes "refused UnknownCommand: frob" ++ 10 ∷ []) ∷ [] ∷ [];
+      reply = codes "refused UnknownCommand: frob" ++ 10 ∷ [];
       refused = true;
       failures = 0;
-      files = files;
-    })
+      ends = false;
+      after = unbegun files;
+    } ∷ record { reply = []; refused = false; failures = 0; ends = true; after = unbegun files } ∷ [])
 unfolding chars lib.Utf8.encode
 short S files =
-    let frob = commands.pipe_refused (commands.refused (commands.unknown_command refl)) in
-    let ends = commands.pipe
-    (commands.more (commands.read (record { named = refl; good = refl }) commands.of_quit) commands.none) commands.last in
+    let frob = commands.pipe_refused (commands.refused (commands.not_called refl)) in
+    let ends = commands.pipe (commands.more (commands.read refl commands.of_quit) commands.none) commands.last in
     lines (for_session none)
-    (next (shell.read (omega arith) (codes "frob", (refl, refl)) (frob, tt) (shell.more shell.refused refl shell.none)) refl
-    (quit (shell.read (omega arith) (codes "q", (refl, refl)) (ends, tt) (quits_first S _ [])) refl))
+    (shell.more (shell.read (omega arith) (codes "frob", (refl, refl)) (frob, tt) (shell.more shell.refused refl shell.none)) refl
+    (shell.last (shell.read (omega arith) (codes "q", (refl, refl)) (ends, tt) (quits_first S _ [])) refl))

@@ -5,11 +5,11 @@ use Rattle.std.specs.Prelude.{codes, length}
 use Rattle.std.specs.Str.Parse.{digits_value}
 use Rattle.gft_io.specs.Lines.{lines_of}
 use Rattle.gft_io.specs.Outside.{Files}
-use Rattle.gft_model.specs.Commands.{Verb, Import, WritePortable, Read}
-use Rattle.gft_model.specs.Output.{is_plain, AreWords, none, a_file, only_files, an_out, an_out_is, a_count, a_count_is, Mode, session, make, workload, Asks, for_session, to_make, for_workload, Written, plain, before, IsPipeOf, pipe, bad_name, unbegun, LinesStep, end, quit, next, FilesStep, Output, workload_text, usage_line}
-use Rattle.gft_model.specs.Shell.{Held, Answer, PipeSteps, Steps}
+use Rattle.gft_model.specs.Commands.{Verb, Import, WritePortable}
+use Rattle.gft_model.specs.Output.{is_plain, AreWords, none, a_file, only_files, an_out, an_out_is, a_count, a_count_is, Mode, session, make, workload, Asks, for_session, to_make, for_workload, unbegun, FilesStep, good_names, bad_names, Output, workload_lines, usage_line}
+use Rattle.gft_model.specs.Shell.{Held, Answer, replying, whole, InOrder, Steps}
 use Rattle.gft_model.specs.States.{Sources}
-use Rattle.gft_model.proofs.AnswerLaws.{IsDetermined, answer_once, pipe_once}
+use Rattle.gft_model.proofs.AnswerLaws.{IsDetermined, HasNoFailure, no_failures, order_of_answers, answer_once, pipe_once}
 
 -- what the words of a program say
 record SameWords (outs counts files others numbers names : List (List ℕ)) : Type 0 where
@@ -66,91 +66,56 @@ asks_once (for_workload {count} d b) (for_workload {count = other} e c) =
     let h = (words_once d e).same_counts in
     let same : count ≡ other = cc in ap (λ ds. workload (digits_value 10 ds)) same
 
--- a command of the words
-pipe_is_once : {verb : Verb} {names : List (List ℕ)} {r s : Read} → IsPipeOf verb names r → IsPipeOf verb names s → r ≡ s
-pipe_is_once (pipe a) (pipe b) = refl
-pipe_is_once (pipe a) (bad_name n) = absurd (n a)
-pipe_is_once (bad_name n) (pipe a) = absurd (n a)
-pipe_is_once (bad_name n) (bad_name m) = refl
-
 module _ (S : Sources) (determined : IsDetermined S) where
-  files_once : {held : Held} {verb : Verb} {names : List (List ℕ)} {n m : ℕ} {x y : Answer}
-      → FilesStep S held verb names n x → n ≡ 0
-      → FilesStep S held verb names m y → m ≡ 0 → x ≡ y
-  files_once {held} {n = n} {x = x} d e g f =
-      let moved = subst (λ r. PipeSteps S held r n x) (pipe_is_once d.is g.is) d.steps in
-      pipe_once S determined moved e g.steps f
+  files_once : {held : Held} {verb : Verb} {names : List (List ℕ)} {x y : Answer} → FilesStep S held verb names x
+      → x.failures ≡ 0 → FilesStep S held verb names y → y.failures ≡ 0 → x ≡ y
+  files_once (good_names a d) e (good_names b g) f = pipe_once S determined d e g f
+  files_once (good_names a d) e (bad_names n) f = absurd (n a)
+  files_once (bad_names n) e (good_names a d) f = absurd (n a)
+  files_once (bad_names n) e (bad_names m) f = refl
 
-  step_once : {held : Held} {line : List ℕ} {n m : ℕ} {x y : Answer} → Steps S held line n x → n ≡ 0
-      → Steps S held line m y → m ≡ 0
-      → x ≡ y
-  step_once {held} {line} {x = x} {y = y} d e g f =
-      answer_once S determined held line x y (subst (λ k. Steps S held line k x) e d) (subst (λ k. Steps S held line k y) f g)
-
-  -- an answer with its number of failures, before what follows
-  before_once : {a b : Answer} {n m : ℕ} {w v : Written} → a ≡ b → n ≡ 0 → m ≡ 0 → w ≡ v → before a n w ≡ before b m v
-  before_once {b = b} {n = n} {m = m} {w = w} h e f t =
-      ap (λ x. before x n w) h ∙ ap (λ k. before b k w) (e ∙ sym f) ∙ ap (before b m) t
-
-  lines_once : {held : Held} {lines : List (List ℕ)} {w v : Written} → LinesStep S held lines w → w.failures ≡ 0
-      → LinesStep S held lines v → v.failures ≡ 0 → w ≡ v
-  lines_once end e end f = refl
-  lines_once (quit d l) e (quit g k) f =
-      let h = step_once d (omega (arith, e)) g (omega (arith, f)) in
-      before_once h (omega (arith, e)) (omega (arith, f)) (ap (λ (x : Answer). plain [] x.after.files) h)
-  lines_once (quit d l) e (next g k gs) f =
-      let h = step_once d (omega (arith, e)) g (omega (arith, f)) in let ends = sym l ∙ ap (λ (x : Answer). x.ends) h ∙ k in cc
-  lines_once (next d l ds) e (quit g k) f =
-      let h = step_once d (omega (arith, e)) g (omega (arith, f)) in let ends = sym l ∙ ap (λ (x : Answer). x.ends) h ∙ k in cc
-  lines_once (next {lines} {w} d l ds) e (next g k gs) f =
-      let h = step_once d (omega (arith, e)) g (omega (arith, f)) in
-      let rest = lines_once (subst (λ (x : Answer). LinesStep S x.after lines w) h ds) (omega (arith, e)) gs (omega (arith, f)) in
-      before_once h (omega (arith, e)) (omega (arith, f)) rest
+  lines_once : {held : Held} {lines : List (List ℕ)} {xs ys : List Answer} → InOrder (Steps S) held lines xs
+      → HasNoFailure xs → InOrder (Steps S) held lines ys → HasNoFailure ys → xs ≡ ys
+  lines_once = order_of_answers (λ held line a b d e g f. answer_once S determined held line a b (d, e) (g, f))
 
   -- what a mode writes
-  data Writes (input : List ℕ) (files : Files) : Mode → Written → Type 0 where
-    lines : {w : Written} → LinesStep S (unbegun files) (lines_of input) w → Writes input files (session []) w
-    file_lines : {file : List ℕ} {names : List (List ℕ)} {n : ℕ} {a : Answer} {w : Written}
-        → FilesStep S (unbegun files) Import (file ∷ names) n a → LinesStep S a.after (lines_of input) w
-        → Writes input files (session (file ∷ names)) (before a n w)
-    made : {out : List ℕ} {names : List (List ℕ)} {n m : ℕ} {a b : Answer} → FilesStep S (unbegun files) Import names n a
-        → a.refused ≡ false → FilesStep S a.after WritePortable (out ∷ []) m b
-        → Writes input files (make out names) (before a n (before b m (plain [] b.after.files)))
-    not_made : {out : List ℕ} {names : List (List ℕ)} {n : ℕ} {a : Answer} → FilesStep S (unbegun files) Import names n a
-        → a.refused ≡ true → Writes input files (make out names) (before a n (plain [] a.after.files))
-    counted : {n : ℕ} → Writes input files (workload n) (plain (workload_text n ∷ []) files)
+  data Writes (input : List ℕ) (files : Files) : Mode → List Answer → Type 0 where
+    lines : {xs : List Answer} → InOrder (Steps S) (unbegun files) (lines_of input) xs → Writes input files (session []) xs
+    file_lines : {file : List ℕ} {names : List (List ℕ)} {a : Answer} {xs : List Answer}
+        → FilesStep S (unbegun files) Import (file ∷ names) a → InOrder (Steps S) a.after (lines_of input) xs
+        → Writes input files (session (file ∷ names)) (a ∷ xs)
+    made : {out : List ℕ} {names : List (List ℕ)} {a b : Answer} → FilesStep S (unbegun files) Import names a
+        → a.refused ≡ false → FilesStep S a.after WritePortable (out ∷ []) b → Writes input files (make out names) (a ∷ b ∷ [])
+    not_made : {out : List ℕ} {names : List (List ℕ)} {a : Answer} → FilesStep S (unbegun files) Import names a
+        → a.refused ≡ true → Writes input files (make out names) (a ∷ [])
+    counted : {n : ℕ} → Writes input files (workload n) (replying (unbegun files) (workload_lines n) ∷ [])
 
-  writes_once : {input : List ℕ} {files : Files} {mode : Mode} {w v : Written} → Writes input files mode w → w.failures ≡ 0
-      → Writes input files mode v → v.failures ≡ 0 → w ≡ v
+  writes_once : {input : List ℕ} {files : Files} {mode : Mode} {xs ys : List Answer} → Writes input files mode xs
+      → HasNoFailure xs → Writes input files mode ys → HasNoFailure ys → xs ≡ ys
   writes_once (lines d) e (lines g) f = lines_once d e g f
-  writes_once {input} (file_lines {w} d ds) e (file_lines g gs) f =
-      let h = files_once d (omega (arith, e)) g (omega (arith, f)) in
-      let moved = subst (λ (x : Answer). LinesStep S x.after (lines_of input) w) h ds in
-      before_once h (omega (arith, e)) (omega (arith, f)) (lines_once moved (omega (arith, e)) gs (omega (arith, f)))
-  writes_once (made {out} {m} {b} d r ds) e (made g k gs) f =
-      let h = files_once d (omega (arith, e)) g (omega (arith, f)) in
-      let moved = subst (λ (x : Answer). FilesStep S x.after WritePortable (out ∷ []) m b) h ds in
-      let last = files_once moved (omega (arith, e)) gs (omega (arith, f)) in
-      before_once h (omega (arith, e)) (omega (arith, f))
-      (before_once last (omega (arith, e)) (omega (arith, f)) (ap (λ (x : Answer). plain [] x.after.files) last))
+  writes_once {input} (file_lines {a} {xs} d ds) e (file_lines {a = b} g gs) f =
+      let h = files_once d e.0 g f.0 in
+      let moved = subst (λ (x : Answer). InOrder (Steps S) x.after (lines_of input) xs) h ds in
+      ap (λ (x : Answer). x ∷ xs) h ∙ ap (λ (zs : List Answer). b ∷ zs) (lines_once moved e.1 gs f.1)
+  writes_once (made {out} {b} d r ds) e (made {a = a} g k gs) f =
+      let h = files_once d e.0 g f.0 in
+      let moved = subst (λ (x : Answer). FilesStep S x.after WritePortable (out ∷ []) b) h ds in
+      ap (λ (x : Answer). x ∷ b ∷ []) h ∙ ap (λ (x : Answer). a ∷ x ∷ []) (files_once moved e.1.0 gs f.1.0)
   writes_once (made d r ds) e (not_made g k) f =
-      let h = files_once d (omega (arith, e)) g (omega (arith, f)) in let flags = sym r
-      ∙ ap (λ (x : Answer). x.refused) h ∙ k in cc
+      let h = files_once d e.0 g f.0 in let flags = sym r ∙ ap (λ (x : Answer). x.refused) h ∙ k in cc
   writes_once (not_made d r) e (made g k gs) f =
-      let h = files_once d (omega (arith, e)) g (omega (arith, f)) in let flags = sym r
-      ∙ ap (λ (x : Answer). x.refused) h ∙ k in cc
-  writes_once (not_made d r) e (not_made g k) f =
-      let h = files_once d (omega (arith, e)) g (omega (arith, f)) in
-      before_once h (omega (arith, e)) (omega (arith, f)) (ap (λ (x : Answer). plain [] x.after.files) h)
+      let h = files_once d e.0 g f.0 in let flags = sym r ∙ ap (λ (x : Answer). x.refused) h ∙ k in cc
+  writes_once (not_made d r) e (not_made g k) f = ap (λ (x : Answer). x ∷ []) (files_once d e.0 g f.0)
   writes_once counted e counted f = refl
 
   -- an output is what its mode writes, or that of a wrong call
-  data OfMode (words : List (List ℕ)) (input : List ℕ) (files : Files) (w : Written) : Type 0 where
-    asked : {mode : Mode} → Asks words mode → Writes input files mode w → OfMode words input files w
-    unasked : ((mode : Mode) → ¬ Asks words mode) → w ≡ plain (usage_line ∷ []) files → OfMode words input files w
+  data OfMode (words : List (List ℕ)) (input : List ℕ) (files : Files) (xs : List Answer) : Type 0 where
+    asked : {mode : Mode} → Asks words mode → Writes input files mode xs → OfMode words input files xs
+    unasked : ((mode : Mode) → ¬ Asks words mode) → xs ≡ replying (unbegun files) (usage_line ∷ []) ∷ []
+        → OfMode words input files xs
 
-  of_mode : {words : List (List ℕ)} {input : List ℕ} {files : Files} {w : Written} → Output S words input files w
-      → OfMode words input files w
+  of_mode : {words : List (List ℕ)} {input : List ℕ} {files : Files} {xs : List Answer} → Output S words input files xs
+      → OfMode words input files xs
   of_mode (Output.lines a d) = asked a (lines d)
   of_mode (Output.file_lines a d ds) = asked a (file_lines d ds)
   of_mode (Output.made a d r ds) = asked a (made d r ds)
@@ -158,15 +123,17 @@ module _ (S : Sources) (determined : IsDetermined S) where
   of_mode (Output.counted a) = asked a counted
   of_mode (Output.wrong_call n) = unasked n refl
 
-  of_mode_once : {words : List (List ℕ)} {input : List ℕ} {files : Files} {w v : Written} → OfMode words input files w
-      → w.failures ≡ 0 → OfMode words input files v → v.failures ≡ 0 → w ≡ v
-  of_mode_once {input = input} {files} {w} (asked a d) e (asked b g) f =
-      writes_once (subst (λ m. Writes input files m w) (asks_once a b) d) e g f
+  of_mode_once : {words : List (List ℕ)} {input : List ℕ} {files : Files} {xs ys : List Answer} → OfMode words input files xs
+      → HasNoFailure xs → OfMode words input files ys → HasNoFailure ys → xs ≡ ys
+  of_mode_once {input = input} {files} {xs} (asked a d) e (asked b g) f =
+      writes_once (subst (λ m. Writes input files m xs) (asks_once a b) d) e g f
   of_mode_once (asked a d) e (unasked n u) f = absurd (n _ a)
   of_mode_once (unasked n u) e (asked a d) f = absurd (n _ a)
   of_mode_once (unasked n u) e (unasked m x) f = u ∙ sym x
 
-  -- a run writes at most one output where no load or save fails
-  pub output_once : (words : List (List ℕ)) (input : List ℕ) (files : Files) (w v : Written) → Output S words input files w
-      → w.failures ≡ 0 → Output S words input files v → v.failures ≡ 0 → w ≡ v
-  output_once words input files w v x e y f = of_mode_once (of_mode x) e (of_mode y) f
+  -- a run answers at most one output where no load or save fails
+  pub output_once : (words : List (List ℕ)) (input : List ℕ) (files : Files) (xs ys : List Answer)
+      → Output S words input files xs → (whole (unbegun files) xs).failures ≡ 0 → Output S words input files ys
+      → (whole (unbegun files) ys).failures ≡ 0 → xs ≡ ys
+  output_once words input files xs ys x e y f =
+      of_mode_once (of_mode x) (no_failures (unbegun files) xs e) (of_mode y) (no_failures (unbegun files) ys f)

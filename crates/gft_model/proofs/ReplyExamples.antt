@@ -11,11 +11,11 @@ use Rattle.gft_pmcfg.specs.declared.signature.Fun.{Fun}
 use Rattle.gft_rules.specs.declared.refusal.Refusal.{Refusal}
 use Rattle.gft_rules.specs.declared.rule.Rule.TheVariants.{UnknownFun}
 use Rattle.gft_model.specs.Brackets.{Piece, Mark, grammar, erased, marked}
-use Rattle.gft_model.specs.Commands.{refusal}
+use Rattle.gft_model.specs.Commands.{a_tree, a_line, refusal}
 use Rattle.gft_model.specs.Cut.{Cutting, cut_of, cut_step}
 use Rattle.gft_model.proofs.Layers.{by_layers-App}
 use Rattle.gft_model.specs.Listing.{IsListed, IsBefore}
-use Rattle.gft_model.specs.Replies.{Item, a_tree, a_line, FailsAt, Parses, Completes, AreNext}
+use Rattle.gft_model.specs.Replies.{FailsAt, Parses, Completes, AreNext}
 use Rattle.gft_model.specs.Replies as replies
 use Rattle.gft_model.specs.Runs.{filled}
 use Rattle.gft_model.specs.Sentences.{IsSentence, IsNext, Next, a_word, next_of}
@@ -53,7 +53,7 @@ may_come (suc k, b, e) = absurd (omega (arith, b))
 completes : Completes dead language 3 [] (a_line (codes "\"yes\"") ∷ [])
 completes = replies.next (codes "yes" ∷ []) false false (inl refl) (record {
   all = λ w. (may_come, λ s. let is = only_next s in (0, omega arith, cc));
-  in_order = one_in_order replies.IsBefore (codes "yes");
+  in_order = one_in_order IsBefore (codes "yes");
   integers = (λ f. cc, λ s. let is = only_next s in cc);
   texts = (λ f. cc, λ s. let is = only_next s in cc);
 })
@@ -68,11 +68,9 @@ begins_with_yes ws = bytes_eq (slice_index_or ws 0 []) (codes "yes")
 -- `p "no"` fails at its first word
 fails : Parses dead language 3 (codes "no" ∷ []) 12 (a_line (codes "failed at word 1: \"no\"") ∷ [])
 unfolding digits
-fails = replies.Parses.failed 1 (codes "no") (record {
-  before = [];
+fails = replies.Parses.failed [] (codes "no") (record {
   after = [];
   parts = refl;
-  is_number = refl;
   begin = inl refl;
   begin_not = λ e. ⊎_elim {C = ⊥} (λ n. cc) (λ r. let is : true ≡ false = ap begins_with_yes (only_word r.1) in cc) e;
 })
@@ -133,7 +131,7 @@ of_h (suc k, b, e) = absurd (omega (arith, b))
 parses : Parses dead language 3 (codes "yes" ∷ []) 12 (a_tree h ∷ [])
 parses = replies.listed {ts = []} (record {
   all = λ p. (of_h, λ s. (0, omega arith, only_listed s));
-  in_order = one_in_order IsBefore h;
+  in_order = one_in_order (λ t s. IsBefore (trees.text_of t) (trees.text_of s)) h;
 })
 
 -- the root comes first

@@ -5,9 +5,9 @@ use Rattle.std.specs.Cmp.Lexicographic.{nat_list_cmp_total}
 use Rattle.gft_core.specs.Words.{joined}
 use Rattle.gft_core.specs.declared.tree.Tree.{Tree}
 use Rattle.gft_pmcfg.specs.declared.signature.Abstract.{Abstract}
-use Rattle.gft_model.specs.Listing as listing
-use Rattle.gft_model.specs.Listing.{Language, IsListed, IsListing}
-use Rattle.gft_model.specs.Replies.{Item, a_tree, a_line, IsBefore, FailsAt, failed_line, Parses, listed, not_complete, no_tree, Completes, next, next_items, AreTexts}
+use Rattle.gft_model.specs.Commands.{Item, a_tree, a_line}
+use Rattle.gft_model.specs.Listing.{Language, IsBefore, IsListed, IsListing}
+use Rattle.gft_model.specs.Replies.{FailsAt, failed_line, Parses, listed, not_complete, no_tree, Completes, next, next_items, AreTexts}
 use Rattle.gft_model.specs.Sentences.{Begins, IsSentence}
 use Rattle.gft_model.specs.Trees.{text_of}
 use Rattle.gft_model.proofs.SkeletonLaws.{skeleton}
@@ -95,13 +95,16 @@ splits (d ∷ b) (f ∷ c) v w x y e =
       under d f h (longer ys e) = let whole : d ∷ b ≡ ((f ∷ c) ++ w ∷ []) ++ ys = cc in longer ys whole
 
 module _ (a : Abstract) (L : Language) where
-  tree_before_once : IsAsymmetric listing.IsBefore
-  tree_before_once t s e f = let h = nat_list_cmp_total.antisymm (text_of t) (text_of s) in cc
+  abbrev TreeBefore : Tree → Tree → Type 0
+  TreeBefore t s = IsBefore (text_of t) (text_of s)
+
+  tree_before_once : IsAsymmetric TreeBefore
+  tree_before_once t s e f = before_once (text_of t) (text_of s) e f
 
   listing_once : (cat : ℕ) (words : List (List ℕ)) (depth : ℕ) (ts us : List Tree) → IsListing a L cat words depth ts
       → IsListing a L cat words depth us → ts ≡ us
   listing_once cat words depth ts us x y =
-      order_once listing.IsBefore tree_before_once ts us x.in_order y.in_order (same_members _ _ x.all y.all)
+      order_once TreeBefore tree_before_once ts us x.in_order y.in_order (same_members _ _ x.all y.all)
 
   pub texts_once : (t : Tree) (vs ws : List (List (List ℕ))) → AreTexts L t vs → AreTexts L t ws → vs ≡ ws
   texts_once t vs ws x y = order_once (λ v w. IsBefore (joined v) (joined w)) (λ v w. before_once (joined v) (joined w)) vs ws
@@ -133,29 +136,28 @@ module _ (a : Abstract) (L : Language) where
   }
 
   -- words that begin a sentence do not fail
-  begins_or_fails : (cat : ℕ) (words : List (List ℕ)) (n : ℕ) (w : List ℕ) → Begins a L cat words → ¬ FailsAt a L cat words n w
-  begins_or_fails cat words n w b f =
-      let parts : words ≡ (f.before ++ w ∷ []) ++ f.after = f.parts ∙ sym (append_assoc f.before (w ∷ []) f.after) in
-      f.begin_not (begins_before cat (f.before ++ w ∷ []) f.after (subst (Begins a L cat) parts b))
+  begins_or_fails : (cat : ℕ) (words before : List (List ℕ)) (w : List ℕ) → Begins a L cat words
+      → ¬ FailsAt a L cat words before w
+  begins_or_fails cat words before w b f =
+      let parts : words ≡ (before ++ w ∷ []) ++ f.after = f.parts ∙ sym (append_assoc before (w ∷ []) f.after) in
+      f.begin_not (begins_before cat (before ++ w ∷ []) f.after (subst (Begins a L cat) parts b))
 
-  fails_once : (cat : ℕ) (words : List (List ℕ)) (n m : ℕ) (v w : List ℕ) → FailsAt a L cat words n v
-      → FailsAt a L cat words m w
-      → (n ≡ m) × (v ≡ w)
-  fails_once cat words n m v w f g = of_splits (splits f.before g.before v w f.after g.after (sym f.parts ∙ g.parts)) where
-    of_splits : Splits f.before g.before v w → (n ≡ m) × (v ≡ w)
-    of_splits (same e h) = (f.is_number ∙ ap (λ b. suc (length b)) e ∙ sym g.is_number, h)
+  fails_once : (cat : ℕ) (words b c : List (List ℕ)) (v w : List ℕ) → FailsAt a L cat words b v → FailsAt a L cat words c w
+      → (b ≡ c) × (v ≡ w)
+  fails_once cat words b c v w f g = of_splits (splits b c v w f.after g.after (sym f.parts ∙ g.parts)) where
+    of_splits : Splits b c v w → (b ≡ c) × (v ≡ w)
+    of_splits (same e h) = (e, h)
     of_splits (shorter ys e) =
-        absurd (f.begin_not (begins_before cat (f.before ++ v ∷ []) ys (subst (Begins a L cat) e g.begin)))
+        absurd (f.begin_not (begins_before cat (b ++ v ∷ []) ys (subst (Begins a L cat) e g.begin)))
     of_splits (longer ys e) =
-        absurd (g.begin_not (begins_before cat (g.before ++ w ∷ []) ys (subst (Begins a L cat) e f.begin)))
+        absurd (g.begin_not (begins_before cat (c ++ w ∷ []) ys (subst (Begins a L cat) e f.begin)))
 
   -- the one line of a notice
-  notice_once : (cat : ℕ) (words : List (List ℕ)) (n m : ℕ) (v w : List ℕ) → FailsAt a L cat words n v
-      → FailsAt a L cat words m w
-      → ◌≡◌ {A = List Item} (a_line (failed_line n v) ∷ []) (a_line (failed_line m w) ∷ [])
-  notice_once cat words n m v w f g =
-      let same = fails_once cat words n m v w f g in
-      ap (λ k. a_line (failed_line k v) ∷ []) same.0 ∙ ap (λ u. a_line (failed_line m u) ∷ []) same.1
+  notice_once : (cat : ℕ) (words b c : List (List ℕ)) (v w : List ℕ) → FailsAt a L cat words b v → FailsAt a L cat words c w
+      → ◌≡◌ {A = List Item} (a_line (failed_line b v) ∷ []) (a_line (failed_line c w) ∷ [])
+  notice_once cat words b c v w f g =
+      let same = fails_once cat words b c v w f g in
+      ap (λ k. a_line (failed_line k v) ∷ []) same.0 ∙ ap (λ u. a_line (failed_line c u) ∷ []) same.1
 
   -- a listed pattern is of a sentence
   some_listed : (cat : ℕ) (words : List (List ℕ)) (depth : ℕ) (t : Tree) (ts : List Tree)

@@ -9,13 +9,13 @@ use Rattle.gft_io.specs.Outside.{Files}
 use Rattle.gft_rules.specs.declared.refusal.Refusal.{Refusal}
 use Rattle.gft_rules.specs.declared.rule.Rule.TheVariants.{NoGrammar, NoSuchLanguage}
 use Rattle.gft_model.specs.Commands as commands
-use Rattle.gft_model.specs.Commands.{Verb, Import, Empty, Quit, Parse, WritePortable, Argument, Nothing, Words, Read, Pipe, command, refusal, keys_of}
+use Rattle.gft_model.specs.Commands.{Verb, Import, Empty, Quit, Parse, WritePortable, Argument, Nothing, Given, a_text, Read, Pipe, refusal, keys_of}
 use Rattle.gft_model.specs.PortableFile.{file_of}
-use Rattle.gft_model.specs.Shell.{Held, grammar_line, Answer, refusing, replying, no_grammar, no_language, no_such_language, no_such_category, LacksFirst, here, later, IsAlone, Does, empties, quits, writes, PipeSteps, done, lacking, save_failed, AllSteps, none, last, more, read, IsAnswer}
+use Rattle.gft_model.specs.Shell.{Held, grammar_line, refusing, replying, no_grammar, no_language, no_such_language, no_such_category, LacksFirst, here, later, Does, empties, quits, writes, save_failed, PipeSteps, done, lacking, InOrder, none, last, more, read, IsAnswer}
 use Rattle.gft_model.specs.Shell as shell
 use Rattle.gft_model.specs.States.{Sources, State, Kept, added, StandsFor, loaded, of_file, file}
 use Rattle.gft_model.proofs.CommandExamples as lines
-use Rattle.gft_model.proofs.CommandExamples.{empty}
+use Rattle.gft_model.proofs.CommandExamples.{command, empty}
 use Rattle.gft_model.proofs.GrammarExamples.{tiny, tiny_is_read}
 use Rattle.gft_model.proofs.Tiny.{abs, eng}
 
@@ -28,36 +28,32 @@ lacks_nothing needs keys r (here (no_such_language e i l f)) = cc
 lacks_nothing needs keys r (here (no_such_category e i l f)) = cc
 lacks_nothing needs keys r (later n d) = elim d [ ]
 
--- a command by itself
-alone : (verb : Verb) (argument : Argument) → IsAlone (command verb [] argument ∷ []) verb argument
-alone verb argument = record { command = _; are = refl; verb_is = refl; argument_is = refl }
-
-empties_alone : (S : Sources) (held : Held) → PipeSteps S held empty 0 (replying (record held { state = None }) [])
-empties_alone S held = done (lacks_nothing (λ i m q. m refl) refl) (empties (alone Empty Nothing))
+empties_alone : (S : Sources) (held : Held) → PipeSteps S held empty (replying (record held { state = None }) [])
+empties_alone S held = done (lacks_nothing (λ i m q. m refl) refl) empties
 
 -- a refused pipe stands between two others, and its line is the reply
 one_refusal : (S : Sources) (held : Held) → IsAnswer S held (codes "e ; frob ; e") (record {
   reply = codes "refused UnknownCommand: frob" ++ 10 ∷ [];
   refused = true;
+  failures = 0;
   ends = false;
   after = record held { state = None };
 })
 unfolding chars lib.Utf8.encode
 one_refusal S held =
-    read (omega arith) (codes "e ; frob ; e", (refl, refl)) lines.line
-    (more (empties_alone S held) refl (more shell.refused refl (more (empties_alone S _) refl none)))
+    (read (omega arith) (codes "e ; frob ; e", (refl, refl)) lines.line
+    (more (empties_alone S held) refl (more shell.refused refl (more (empties_alone S _) refl none))), refl)
 
 -- an empty session has no grammar
 nothing_to_parse : (S : Sources) (files : Files) → PipeSteps S (record { state = None; files = files })
-    (Pipe (command Parse [] (Words []) ∷ [])) 0
+    (Pipe (command Parse [] (Given (a_text [])) ∷ []))
     (refusing (record { state = None; files = files }) (refusal NoGrammar []) [])
 nothing_to_parse S files = lacking (here (no_grammar refl (λ e. cc) (λ e. cc) (λ e. cc)))
 
 -- nothing runs after `quit`
 pub quits_first : (S : Sources) (held : Held) (reads : List Read)
-    → AllSteps S held (Pipe (command Quit [] Nothing ∷ []) ∷ reads) 0
-    (record { reply = []; refused = false; ends = true; after = held })
-quits_first S held reads = last (done (lacks_nothing (λ i m q. q refl) refl) (quits (alone Quit Nothing))) refl
+    → InOrder (PipeSteps S) held (Pipe (command Quit [] Nothing ∷ []) ∷ reads) (record (replying held []) { ends = true } ∷ [])
+quits_first S held reads = last (done (lacks_nothing (λ i m q. q refl) refl) quits) refl
 
 -- a session with the grammar of one sentence
 abbrev tiny_state : State
@@ -65,8 +61,9 @@ tiny_state = Some (record { abs = abs; languages = (codes "TE", of_file eng) ∷
 
 -- the language is looked for before the category, which is not there either
 language_first : LacksFirst tiny_state
-    (record { verb = Parse; lang = Some (codes "A"); cat = Some (codes "B"); depth = None; argument = Words [] } ∷ [])
+    (command Parse (codes "-cat=B" ∷ codes "-lang=A" ∷ []) (Given (a_text [])) ∷ [])
     (refusal NoSuchLanguage (codes "A" ∷ []))
+unfolding lib.Utf8.encode
 language_first = here (no_such_language refl (λ e. cc) refl refl)
 
 -- the line of its import, and of one without languages
@@ -82,25 +79,23 @@ replaced : map (λ (l : List ℕ × Kept). l.0) (added [] ((codes "B", of_file e
 replaced = refl
 
 -- its file is written
-tiny_written : (S : Sources) (files : Files) → Does S (record { state = tiny_state; files = files })
-    (command WritePortable [] (commands.Files (codes "T.gft" ∷ [])) ∷ [])
+tiny_written : (S : Sources) (files : Files) → Does S (record { state = tiny_state; files = files }) WritePortable
+    (commands.Files (codes "T.gft" ∷ []))
     (replying (record { state = tiny_state; files = insert files (codes "T.gft") (file_of tiny) })
     (codes "wrote T.gft 133 bytes" ∷ []))
 unfolding digits
-tiny_written S files =
-    writes (alone WritePortable (commands.Files (codes "T.gft" ∷ []))) (tiny, loaded refl (file refl, tt), tiny_is_read) (omega arith)
+tiny_written S files = writes (tiny, loaded refl (file refl, tt), tiny_is_read) (omega arith)
 
 -- where the save fails, the state stays and the reply names the file; here its content is as before
-tiny_not_saved : (S : Sources) (files : Files) → PipeSteps S (record { state = tiny_state; files = files })
-    (Pipe (command WritePortable [] (commands.Files (codes "T.gft" ∷ [])) ∷ [])) 1 (record {
+tiny_not_saved : (S : Sources) (files : Files) → Does S (record { state = tiny_state; files = files }) WritePortable
+    (commands.Files (codes "T.gft" ∷ [])) (record {
       reply = codes "refused CannotWrite: T.gft" ++ 10 ∷ [];
       refused = true;
+      failures = 1;
       ends = false;
       after = record { state = tiny_state; files = files };
     })
-tiny_not_saved S files =
-    save_failed (alone WritePortable (commands.Files (codes "T.gft" ∷ []))) (tiny, loaded refl (file refl, tt), tiny_is_read)
-    (omega arith) (λ name other. refl)
+tiny_not_saved S files = save_failed (tiny, loaded refl (file refl, tt), tiny_is_read) (omega arith) (λ name other. refl)
 
 -- a compiled grammar does not stand for the empty state
 tiny_is_not_empty : (S : Sources) → ¬ StandsFor S (Some tiny) None

@@ -1,5 +1,5 @@
 -- The text of abstract types and judgements.
-use Rattle.std.specs.Prelude.{ℕ, suc, nat_eq, Bool, false, if◌then◌else◌, List, [], ◌∷◌, ◌++◌, map, filter, drop, codes}
+use Rattle.std.specs.Prelude.{ℕ, suc, nat_eq, Bool, false, if◌then◌else◌, List, [], ◌∷◌, ◌++◌, map, flat_map, filter, drop, codes}
 use Rattle.std.specs.Fmt.{decimal}
 use Rattle.std.specs.List.{list_any}
 use Rattle.gft_core.specs.declared.tree.Tree.{fold-Tree}
@@ -11,6 +11,7 @@ use Rattle.gft_pmcfg.specs.declared.signature.Cat.{Cat}
 use Rattle.gft_pmcfg.specs.declared.signature.Fun.{Fun}
 use Rattle.gft_tree.specs.Trees.{Printed, printed_step, as_arguments, holes_of}
 use Rattle.gft_model.specs.States.{category_name}
+use Rattle.gft_model.specs.Typing.{numbered_from}
 
 -- the variable of an argument
 abbrev pub variable : ℕ → List ℕ
@@ -18,10 +19,8 @@ variable k = codes "x" ++ decimal k
 
 -- an index is written as a tree, with variables in the place of holes
 abbrev pub index_step : Tree-F Printed → Printed
-index_step (layer.App f ps) = printed_step (layer.App f ps)
-index_step (layer.Int n) = printed_step (layer.Int n)
-index_step (layer.Str w) = printed_step (layer.Str w)
 index_step (layer.Hole k) = (variable k, false)
+index_step other = printed_step other
 
 -- a type: its category and its indices
 abbrev pub type_text : Abstract → AType → List ℕ
@@ -30,11 +29,6 @@ type_text a t = category_name a t.cat ++ as_arguments (map (fold-Tree Printed in
 -- a named argument, `(x1 : A)`
 abbrev pub named : Abstract → ℕ → AType → List ℕ
 named a k t = codes "(" ++ variable k ++ codes " : " ++ type_text a t ++ codes ")"
-
--- the context of a category, from argument k on
-abbrev pub context_text : Abstract → ℕ → List AType → List ℕ
-context_text a k [] = []
-context_text a k (t ∷ ts) = codes " " ++ named a k t ++ context_text a (suc k) ts
 
 -- some type uses the variable of the argument
 abbrev pub uses : ℕ → List AType → Bool
@@ -46,8 +40,10 @@ arrows a k [] result = type_text a result
 arrows a k (t ∷ ts) result =
     (if uses k (ts ++ result ∷ []) then named a k t else type_text a t) ++ codes " -> " ++ arrows a (suc k) ts result
 
+-- a category with its context
 abbrev pub category_line : Abstract → Cat → List ℕ
-category_line a c = codes "cat " ++ c.name ++ context_text a 1 c.context
+category_line a c =
+    codes "cat " ++ c.name ++ flat_map (λ (h : ℕ × AType). codes " " ++ named a h.0 h.1) (numbered_from 1 c.context)
 
 abbrev pub function_line : Abstract → Fun → List ℕ
 function_line a f = codes "fun " ++ f.name ++ codes " : " ++ arrows a 1 f.args f.result

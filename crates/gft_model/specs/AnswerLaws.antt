@@ -8,14 +8,14 @@ use Rattle.gft_pmcfg.specs.declared.grammar.Grammar.{Grammar}
 use Rattle.gft_rules.specs.declared.refusal.Refusal.{Refusal}
 use Rattle.gft_syntax.specs.declared.flat.Flat.{Flat}
 use Rattle.gft_io.specs.Outside.{Files}
-use Rattle.gft_model.specs.Commands.{Read, ReadsLine, EndsIn, portable_ending}
+use Rattle.gft_model.specs.Commands.{Item, Read, ReadsLine, EndsIn, portable_ending}
 use Rattle.gft_model.specs.Import.{sources}
 use Rattle.gft_model.specs.Compiled.{Compiles}
 use Rattle.gft_model.specs.Loading.{HasFiles}
 use Rattle.gft_model.specs.Laws.{AreNamedApart}
-use Rattle.gft_model.specs.Output.{Written, Output}
-use Rattle.gft_model.specs.Replies.{Item, Parses, Completes, AreTexts}
-use Rattle.gft_model.specs.Shell.{Held, Answer, IsAnswer, IsFileOf}
+use Rattle.gft_model.specs.Output.{unbegun, Output}
+use Rattle.gft_model.specs.Replies.{Parses, Completes, AreTexts}
+use Rattle.gft_model.specs.Shell.{Held, Answer, whole, IsAnswer, IsFileOf}
 use Rattle.gft_model.specs.Skeleton.{IsSkeleton}
 use Rattle.gft_model.specs.States.{Kept, State, language_of, Gives, StandsFor, kept_grammar}
 use Rattle.gft_model.specs.Unsolved.{IsWrongAt}
@@ -81,5 +81,6 @@ SessionAnswersOnce =
 -- and a run in which none fails at most one output
 abbrev pub OutputIsDetermined : Type 0
 OutputIsDetermined =
-    (words : List (List ℕ)) (input : List ℕ) (files : Files) (w v : Written) → Output sources words input files w
-    → w.failures ≡ 0 → Output sources words input files v → v.failures ≡ 0 → w ≡ v
+    (words : List (List ℕ)) (input : List ℕ) (files : Files) (xs ys : List Answer) → Output sources words input files xs
+    → (whole (unbegun files) xs).failures ≡ 0 → Output sources words input files ys
+    → (whole (unbegun files) ys).failures ≡ 0 → xs ≡ ys

@@ -1,14 +1,15 @@
 -- Command lines: how a line is cut, which commands stand in it, and what it alone breaks.
-use Rattle.std.specs.Prelude.{◌≡◌, ◌≢◌, ◌==◌, ◌&&◌, ◌⊎◌, ℕ, zero, suc, ◌+◌, Bool, true, false, not, nat_le, if◌then◌else◌, List, [], ◌∷◌, ◌++◌, length, map, filter, take, drop, codes, bytes_eq, slice_index_or, All, Option, Some, None, Result, Ok, Err, encode_utf8_all}
+use Rattle.std.specs.Prelude.{◌≡◌, ◌≢◌, ◌==◌, ◌&&◌, ◌⊎◌, ℕ, zero, suc, ◌+◌, Bool, true, false, not, nat_le, if◌then◌else◌, List, [], ◌∷◌, ◌++◌, length, map, filter, take, drop, codes, bytes_eq, slice_get, slice_index_or, All, Option, Some, None, Result, Ok, Err, encode_utf8_all}
 use Rattle.std.specs.Char.{is_whitespace}
 use Rattle.std.specs.Fmt.{decimal}
-use Rattle.std.specs.List.{AllZip, list_all, take_while}
-use Rattle.std.specs.Option.{option_map}
+use Rattle.std.specs.List.{AllZip, list_all, take_while, filter_map, position_or_len}
+use Rattle.std.specs.Map.{lookup}
+use Rattle.std.specs.Option.{option_map, option_map_or}
 use Rattle.std.specs.Str.{skip_leading_whitespace, drop_trailing_whitespace}
 use Rattle.std.specs.Str.Parse.{digits_value}
 use Rattle.gft_core.specs.Names.{spells_name}
 use Rattle.gft_core.specs.Words.{runs}
-use Rattle.gft_core.specs.declared.tree.Tree as tree
+use Rattle.gft_core.specs.declared.tree.Tree.{Tree}
 use Rattle.gft_io.specs.Lines.{with_first}
 use Rattle.gft_rules.specs.declared.refusal.Refusal.{Refusal}
 use Rattle.gft_rules.specs.declared.rule.Rule.{Rule}
@@ -22,29 +23,25 @@ use Rattle.gft_tree.specs.Trees.{quoted}
 
 -- the commands
 pub data Verb : Type 0 where
-  Import : Verb
-  Empty : Verb
-  Quit : Verb
-  Parse : Verb
-  Linearize : Verb
-  Complete : Verb
-  AbstractInfo : Verb
-  WritePortable : Verb
+  Import Empty Quit Parse Linearize Complete AbstractInfo WritePortable : Verb
 
--- what a command works on: nothing, file names, the words of a text, a tree, or a name
+-- what passes from one command of a pipe to the next: trees, texts as their words, and lines, which pass unchanged
+pub data Item : Type 0 where
+  a_tree : Tree → Item
+  a_text : List (List ℕ) → Item
+  a_line : List ℕ → Item
+
+-- what a command works on: nothing, file names, a tree or a text, or a name
 pub data Argument : Type 0 where
   Nothing : Argument
   Files : List (List ℕ) → Argument
-  Words : List (List ℕ) → Argument
-  Tree : tree.Tree → Argument
+  Given : Item → Argument
   Name : List ℕ → Argument
 
--- a command, with the options that it has
+-- a command; its options are words of characters
 pub record Command : Type 0 where
   pub verb : Verb
-  pub lang : Option (List ℕ)
-  pub cat : Option (List ℕ)
-  pub depth : Option ℕ
+  pub options : List (List ℕ)
   pub argument : Argument
 
 -- what a pipe is read as
@@ -93,15 +90,11 @@ pipes_of line = if is_comment line then [] else filter (λ pipe. not (is_blank p
 abbrev pub commands_of : List ℕ → List (List ℕ)
 commands_of pipe = parts 124 pipe
 
--- what stands after the first word
-abbrev pub after_word : List ℕ → List ℕ
-after_word [] = []
-after_word (c ∷ cs) = if is_whitespace c then c ∷ cs else after_word cs
-
 -- what stands after so many words and white space
 abbrev pub after_words : ℕ → List ℕ → List ℕ
 after_words zero cs = skip_leading_whitespace cs
-after_words (suc n) cs = after_words n (after_word (skip_leading_whitespace cs))
+after_words (suc n) cs =
+    let word = skip_leading_whitespace cs in after_words n (drop (position_or_len is_whitespace word) word)
 
 abbrev pub begins_with_hyphen : List ℕ → Bool
 begins_with_hyphen word = bytes_eq (take 1 word) (codes "-")
@@ -126,45 +119,30 @@ verbs =
     ∷ (codes "linearize", Linearize) ∷ (codes "l", Linearize) ∷ (codes "complete", Complete)
     ∷ (codes "abstract_info", AbstractInfo) ∷ (codes "ai", AbstractInfo) ∷ (codes "write_portable", WritePortable) ∷ []
 
-abbrev pub verb_in : List (List ℕ × Verb) → List ℕ → Option Verb
-verb_in [] name = None
-verb_in (row ∷ rows) name = if bytes_eq row.0 name then Some row.1 else verb_in rows name
-
 -- the command of a text, by its name
 abbrev pub verb_of : List ℕ → Option Verb
-verb_of text = verb_in verbs (name_of text)
+verb_of text = lookup (bytes_eq (name_of text)) verbs
 
 -- the options that a command takes, as they begin
 abbrev pub keys_of : Verb → List (List ℕ)
-keys_of Import = []
-keys_of Empty = []
-keys_of Quit = []
 keys_of Parse = codes "-lang=" ∷ codes "-cat=" ∷ codes "-depth=" ∷ []
 keys_of Linearize = codes "-lang=" ∷ codes "-cat=" ∷ []
 keys_of Complete = codes "-lang=" ∷ codes "-cat=" ∷ []
-keys_of AbstractInfo = []
-keys_of WritePortable = []
+keys_of verb = []
 
 -- what stands after a beginning, where the text begins so
 abbrev pub value_after : List ℕ → List ℕ → Option (List ℕ)
-value_after [] cs = Some cs
-value_after (k ∷ ks) [] = None
-value_after (k ∷ ks) (c ∷ cs) = if k == c then value_after ks cs else None
+value_after key cs = if bytes_eq (take (length key) cs) key then Some (drop (length key) cs) else None
 
--- digits without a leading zero
-abbrev pub is_decimal : List ℕ → Bool
-is_decimal ds = are_digits ds && is_canonical ds
+-- digits are a canonical decimal from 1 to a limit
+abbrev pub is_decimal_to : ℕ → List ℕ → Bool
+is_decimal_to most ds =
+    are_digits ds && is_canonical ds && nat_le 1 (digits_value 10 ds) && nat_le (digits_value 10 ds) most
 
--- a depth is a canonical decimal from 1 to 64; a language and a category are identifiers
-abbrev pub is_depth : List ℕ → Bool
-is_depth value = is_decimal value && nat_le 1 (digits_value 10 value) && nat_le (digits_value 10 value) 64
-
-abbrev pub is_value : List ℕ → List ℕ → Bool
-is_value key value = if bytes_eq key (codes "-depth=") then is_depth value else spells_name value
-
--- the word is the option with a good value
+-- the word is the option with a good value: a depth is at most 64, a language and a category are identifiers
 abbrev pub is_option : List ℕ → List ℕ → Bool
-is_option word key = elim (value_after key word) [ None ↦ false | Some value ↦ is_value key value ]
+is_option word key = option_map_or (if bytes_eq key (codes "-depth=") then is_decimal_to 64 else spells_name)
+    (value_after key word) false
 
 -- the first word that is none of the options that may still come; each comes once
 abbrev pub bad_option : List (List ℕ) → List (List ℕ) → Option (List ℕ)
@@ -175,20 +153,9 @@ bad_option keys (word ∷ words) =
       | key ∷ others ↦ bad_option (filter (λ k. not (bytes_eq k key)) keys) words
     ]
 
--- the value of an option among the words
-abbrev pub value_in : List ℕ → List (List ℕ) → Option (List ℕ)
-value_in key [] = None
-value_in key (word ∷ words) = elim (value_after key word) [ Some value ↦ Some value | None ↦ value_in key words ]
-
--- the command with its options
-abbrev pub command : Verb → List (List ℕ) → Argument → Command
-command verb options argument = record {
-  verb = verb;
-  lang = option_map encode_utf8_all (value_in (codes "-lang=") options);
-  cat = option_map encode_utf8_all (value_in (codes "-cat=") options);
-  depth = option_map (digits_value 10) (value_in (codes "-depth=") options);
-  argument = argument;
-}
+-- the value of an option of a command, if it has the option
+abbrev pub option_of : List ℕ → Command → Option (List ℕ)
+option_of key c = option_map encode_utf8_all (slice_get (filter_map (value_after key) c.options) 0)
 
 -- the words of characters
 abbrev pub words_in : List ℕ → List (List ℕ)
@@ -213,47 +180,47 @@ pub data AreFileNames : Verb → List (List ℕ) → Type 0 where
   of_import : {name names : _} → All IsFileName (name ∷ names) → AreFileNames Import (name ∷ names)
   of_write_portable : {name : _} → EndsIn portable_ending name → AreFileNames WritePortable (name ∷ [])
 
--- what a text says as the argument of a command of that form
-pub data IsArgument : Verb → List ℕ → Argument → Type 0 where
-  files : {verb text : _} → AreFileNames verb (words_in text) → IsArgument verb text (Files (words_in text))
-  of_empty : IsArgument Empty [] Nothing
-  of_quit : IsArgument Quit [] Nothing
-  to_parse : {text : _} (inner : List ℕ) → text ≡ quoted inner → IsArgument Parse text (Words (words_in inner))
-  to_complete : {text : _} (inner : List ℕ) → text ≡ quoted inner → IsArgument Complete text (Words (words_in inner))
-  to_linearize : {text t : _} → Spells text t → IsArgument Linearize text (Tree t)
-  by_name : {text : _} → spells_name text ≡ true → IsArgument AbstractInfo text (Name (encode_utf8_all text))
-  all : IsArgument AbstractInfo [] Nothing
+-- what a text says as the argument of a command of that form; a later command of a pipe may have none
+pub data IsArgument (later : Bool) : Verb → List ℕ → Argument → Type 0 where
+  files : {verb text : _} → AreFileNames verb (words_in text) → IsArgument later verb text (Files (words_in text))
+  of_empty : IsArgument later Empty [] Nothing
+  of_quit : IsArgument later Quit [] Nothing
+  to_parse : {text : _} (inner : List ℕ) → text ≡ quoted inner → IsArgument later Parse text (Given (a_text (words_in inner)))
+  to_complete : {text : _} (inner : List ℕ) → text ≡ quoted inner →
+      IsArgument later Complete text (Given (a_text (words_in inner)))
+  to_linearize : {text t : _} → Spells text t → IsArgument later Linearize text (Given (a_tree t))
+  by_name : {text : _} → spells_name text ≡ true → IsArgument later AbstractInfo text (Name (encode_utf8_all text))
+  all : IsArgument later AbstractInfo [] Nothing
+  bare : {verb : _} → later ≡ true → IsArgument later verb [] Nothing
 
 -- the rule of a fault of a tree; want of memory is no fault of a text
 abbrev pub tree_rule : TreeErr → Rule
-tree_rule (fault.Syntax at) = TreeSyntax
 tree_rule (fault.TooDeep at) = TreeTooDeep
 tree_rule (fault.BadLiteral at) = BadLiteral
-tree_rule fault.NoMemory = TreeSyntax
+tree_rule e = TreeSyntax
 
 -- the refusal of a text that is no argument of the command: the first fault of a tree, with its offset in bytes
-pub data HasBadArgument : Verb → List ℕ → Refusal → Type 0 where
-  of_tree : {text e : _} → IsRefused text e → HasBadArgument Linearize text (refusal (tree_rule e) (decimal (place_of e) ∷ []))
-  other : {verb text : _} → verb ≢ Linearize → ((a : Argument) → ¬ IsArgument verb text a) →
-      HasBadArgument verb text (refusal BadArgument [])
+pub data HasBadArgument (later : Bool) : Verb → List ℕ → Refusal → Type 0 where
+  of_tree : {text e : _} → (later ≡ true → text ≢ []) → IsRefused text e →
+      HasBadArgument later Linearize text (refusal (tree_rule e) (decimal (place_of e) ∷ []))
+  other : {verb text : _} → verb ≢ Linearize → ((a : Argument) → ¬ IsArgument later verb text a) →
+      HasBadArgument later verb text (refusal BadArgument [])
 
--- the command of a text, all of whose options are good
-pub record IsCalled (text : List ℕ) (verb : Verb) : Type 0 where
-  pub named : verb_of text ≡ Some verb
-  pub good : bad_option (keys_of verb) (options_of text) ≡ None
+-- the command that a text calls with its options, or the refusal of its name or of an option
+abbrev pub called : List ℕ → Result Verb Refusal
+called text = elim (verb_of text) [
+  | None ↦ Err (refusal UnknownCommand (encode_utf8_all (name_of text) ∷ []))
+  | Some verb ↦ option_map_or (λ word. Err (refusal BadOption (encode_utf8_all word ∷ [])))
+      (bad_option (keys_of verb) (options_of text)) (Ok verb)
+]
 
--- what the text of a command is read as: the command, or its first refusal; a later command of its pipe may have no argument
+-- what the text of a command is read as: the command, or its first refusal
 pub data ReadsCommand (later : Bool) (text : List ℕ) : Result Command Refusal → Type 0 where
-  unknown_command : verb_of text ≡ None →
-      ReadsCommand later text (Err (refusal UnknownCommand (encode_utf8_all (name_of text) ∷ [])))
-  option_refused : {verb word : _} → verb_of text ≡ Some verb → bad_option (keys_of verb) (options_of text) ≡ Some word →
-      ReadsCommand later text (Err (refusal BadOption (encode_utf8_all word ∷ [])))
-  argument_refused : {verb r : _} → IsCalled text verb → (later ≡ true → argument_of text ≢ []) →
-      HasBadArgument verb (argument_of text) r → ReadsCommand later text (Err r)
-  read : {verb a : _} → IsCalled text verb → IsArgument verb (argument_of text) a →
-      ReadsCommand later text (Ok (command verb (options_of text) a))
-  read_bare : {verb : _} → IsCalled text verb → later ≡ true → argument_of text ≡ [] →
-      ReadsCommand later text (Ok (command verb (options_of text) Nothing))
+  not_called : {r : _} → called text ≡ Err r → ReadsCommand later text (Err r)
+  argument_refused : {verb r : _} → called text ≡ Ok verb → HasBadArgument later verb (argument_of text) r →
+      ReadsCommand later text (Err r)
+  read : {verb argument : _} → called text ≡ Ok verb → IsArgument later verb (argument_of text) argument →
+      ReadsCommand later text (Ok (record { verb = verb; options = options_of text; argument = argument }))
 
 -- each gives what R says, in order, up to the first refusal
 pub data InTurn {A B : Type 0} (R : A → Result B Refusal → Type 0) : List A → Result (List B) Refusal → Type 0 where

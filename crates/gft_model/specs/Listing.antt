@@ -28,12 +28,12 @@ pub record IsListed (a : Abstract) (language : Language) (cat : ℕ) (words : Li
   pub words_are : erased string ≡ words
   pub solved : IsSolution a (cut_of tree string) pattern
 
--- the text of one tree is before that of another in byte order
-abbrev pub IsBefore : Tree → Tree → Type 0
-IsBefore t s = slice_cmp nat_cmp (text_of t) (text_of s) ≡ Less
+-- bytes are before others in byte order
+abbrev pub IsBefore : List ℕ → List ℕ → Type 0
+IsBefore v w = slice_cmp nat_cmp v w ≡ Less
 
 -- the patterns are exactly those that are listed, each once, in byte order of their texts
 pub record IsListing (a : Abstract) (language : Language) (cat : ℕ) (words : List (List ℕ)) (depth : ℕ)
     (patterns : List Tree) : Type 0 where
   pub all : (pattern : Tree) → Contains patterns pattern ↔ IsListed a language cat words depth pattern
-  pub in_order : AllPairs IsBefore patterns
+  pub in_order : AllPairs (λ t s. IsBefore (text_of t) (text_of s)) patterns

@@ -1,11 +1,9 @@
 -- What `parse`, `linearize` and `complete` answer, and what passes from one to the next in a pipe.
 use Rattle.std.specs.Prelude.{◌≡◌, ◌↔◌, ℕ, suc, Bool, IsTrue, nat_lt, if◌then◌else◌, List, [], ◌∷◌, ◌++◌, length, map, filter, flat_map, codes, bytes_eq, Contains, AllPairs, Option, Some, None, Result, Ok, Err, position, slice_get}
-use Rattle.std.specs.Cmp.Lexicographic.{slice_cmp}
 use Rattle.std.specs.Fmt.{decimal}
 use Rattle.std.specs.List.{AllZip}
-use Rattle.std.specs.Option.{option_map, unwrap_or}
-use Rattle.std.specs.Ordering.{nat_cmp}
-use Rattle.std.specs.declared.cmp.Ordering.TheVariants.{Less}
+use Rattle.std.specs.Option.{option_map, option_map_or}
+use Rattle.std.specs.Str.Parse.{digits_value}
 use Rattle.gft_core.specs.Words.{joined}
 use Rattle.gft_core.specs.declared.tree.Tree.{Tree}
 use Rattle.gft_pmcfg.specs.declared.signature.Abstract.{Abstract}
@@ -13,39 +11,27 @@ use Rattle.gft_rules.specs.declared.refusal.Refusal.{Refusal}
 use Rattle.gft_rules.specs.declared.rule.Rule.TheVariants.{TooManyWords, TokenTooLong}
 use Rattle.gft_tree.specs.Trees.{quoted}
 use Rattle.gft_model.specs.Brackets.{Piece, erased}
-use Rattle.gft_model.specs.Commands.{Command, Verb, Parse, Linearize, Complete, Argument, InTurn, refusal}
-use Rattle.gft_model.specs.Commands as command
-use Rattle.gft_model.specs.Listing.{Language, IsListing}
+use Rattle.gft_model.specs.Commands.{Command, Parse, Linearize, Complete, Item, a_tree, a_text, a_line, option_of, InTurn, refusal}
+use Rattle.gft_model.specs.Listing.{Language, IsBefore, IsListing}
 use Rattle.gft_model.specs.Sentences.{IsSentence, Begins, IsNext, a_word, any_integer, any_string}
 use Rattle.gft_model.specs.States.{Kept, Languages, Loaded, category_number, language_of}
 use Rattle.gft_model.specs.Trees.{text_of}
 use Rattle.gft_model.specs.Unsolved.{IsUnsolved, IsSolvable}
 
--- what a command gives: trees, texts as their words, and lines, which pass unchanged
-pub data Item : Type 0 where
-  a_tree : Tree → Item
-  a_text : List (List ℕ) → Item
-  a_line : List ℕ → Item
-
--- the line that is written for it
+-- the line that is written for an item
 abbrev pub line_of : Item → List ℕ
 line_of (a_tree t) = text_of t
 line_of (a_text words) = joined words
 line_of (a_line line) = line
 
--- texts and words are in strictly ascending byte order
-abbrev pub IsBefore : List ℕ → List ℕ → Type 0
-IsBefore v w = slice_cmp nat_cmp v w ≡ Less
-
 -- the category of a command's option, or else the start category
-abbrev pub category_for : Abstract → Option (List ℕ) → Option ℕ
-category_for a None = Some a.start
-category_for a (Some name) = category_number a name
+abbrev pub category_for : Loaded → Command → Option ℕ
+category_for g c = option_map_or (category_number g.abs) (option_of (codes "-cat=") c) (Some g.abs.start)
 
 -- the language of a command's option, or else all
-abbrev pub languages_for : Languages → Option (List ℕ) → Languages
-languages_for ls None = ls
-languages_for ls (Some name) = filter (λ (l : List ℕ × Kept). bytes_eq l.0 name) ls
+abbrev pub languages_for : Loaded → Command → Languages
+languages_for g c = option_map_or (λ name. filter (λ (l : List ℕ × Kept). bytes_eq l.0 name) g.languages)
+    (option_of (codes "-lang=") c) g.languages
 
 -- a text has at most 512 words, each of at most 1,024 bytes
 abbrev pub text_refusal : List (List ℕ) → Option Refusal
@@ -53,23 +39,21 @@ text_refusal words =
     if nat_lt 512 (length words) then Some (refusal TooManyWords (decimal (length words) ∷ []))
     else option_map (λ i. refusal TokenTooLong (decimal (suc i) ∷ [])) (position (λ w. nat_lt 1024 (length w)) words)
 
--- the first words that begin no sentence end with this word; its number counts from 1
-pub record FailsAt (a : Abstract) (L : Language) (cat : ℕ) (words : List (List ℕ)) (number : ℕ) (word : List ℕ) : Type 0 where
-  pub before : List (List ℕ)
+-- the words before this one begin a sentence, and with it they do not
+pub record FailsAt (a : Abstract) (L : Language) (cat : ℕ) (words before : List (List ℕ)) (word : List ℕ) : Type 0 where
   pub after : List (List ℕ)
   pub parts : words ≡ before ++ word ∷ after
-  pub is_number : number ≡ suc (length before)
   pub begin : Begins a L cat before
   pub begin_not : ¬ Begins a L cat (before ++ word ∷ [])
 
-abbrev pub failed_line : ℕ → List ℕ → List ℕ
-failed_line number word = codes "failed at word " ++ decimal number ++ codes ": " ++ quoted word
+abbrev pub failed_line : List (List ℕ) → List ℕ → List ℕ
+failed_line before word = codes "failed at word " ++ decimal (suc (length before)) ++ codes ": " ++ quoted word
 
 -- the patterns that are listed, or one notice
 pub data Parses (a : Abstract) (L : Language) (cat : ℕ) (words : List (List ℕ)) (depth : ℕ) : List Item → Type 0 where
   listed : {t ts : _} → IsListing a L cat words depth (t ∷ ts) → Parses a L cat words depth (map a_tree (t ∷ ts))
-  failed : (number : ℕ) (word : List ℕ) → FailsAt a L cat words number word →
-      Parses a L cat words depth (a_line (failed_line number word) ∷ [])
+  failed : (before : List (List ℕ)) (word : List ℕ) → FailsAt a L cat words before word →
+      Parses a L cat words depth (a_line (failed_line before word) ∷ [])
   not_complete : Begins a L cat words → ¬ IsSentence a L cat words →
       Parses a L cat words depth (a_line (codes "not complete") ∷ [])
   no_tree : IsSentence a L cat words → IsListing a L cat words depth [] →
@@ -92,8 +76,8 @@ next_items tokens integer text =
 pub data Completes (a : Abstract) (L : Language) (cat : ℕ) (words : List (List ℕ)) : List Item → Type 0 where
   next : (tokens : List (List ℕ)) (integer text : Bool) → Begins a L cat words → AreNext a L cat words tokens integer text →
       Completes a L cat words (next_items tokens integer text)
-  failed : (number : ℕ) (word : List ℕ) → FailsAt a L cat words number word →
-      Completes a L cat words (a_line (failed_line number word) ∷ [])
+  failed : (before : List (List ℕ)) (word : List ℕ) → FailsAt a L cat words before word →
+      Completes a L cat words (a_line (failed_line before word) ∷ [])
 
 -- exactly the texts of a tree, each once, in byte order
 pub record AreTexts (L : Language) (t : Tree) (texts : List (List (List ℕ))) : Type 0 where
@@ -102,16 +86,15 @@ pub record AreTexts (L : Language) (t : Tree) (texts : List (List (List ℕ))) :
 
 -- what a command makes of an item, or its refusal
 pub data Makes (g : Loaded) (c : Command) : Item → Result (List Item) Refusal → Type 0 where
-  parsed : {words cat l items : _} → c.verb ≡ Parse → text_refusal words ≡ None → category_for g.abs c.cat ≡ Some cat →
-      slice_get (languages_for g.languages c.lang) 0 ≡ Some l →
-      Parses g.abs (language_of g.abs cat l) cat words (unwrap_or c.depth 12) items → Makes g c (a_text words) (Ok items)
-  completed : {words cat l items : _} → c.verb ≡ Complete → text_refusal words ≡ None → category_for g.abs c.cat ≡ Some cat →
-      slice_get (languages_for g.languages c.lang) 0 ≡ Some l → Completes g.abs (language_of g.abs cat l) cat words items →
+  parsed : {words cat l items : _} → c.verb ≡ Parse → text_refusal words ≡ None → category_for g c ≡ Some cat →
+      slice_get (languages_for g c) 0 ≡ Some l → Parses g.abs (language_of g.abs cat l) cat words
+      (option_map_or (digits_value 10) (option_of (codes "-depth=") c) 12) items → Makes g c (a_text words) (Ok items)
+  completed : {words cat l items : _} → c.verb ≡ Complete → text_refusal words ≡ None → category_for g c ≡ Some cat →
+      slice_get (languages_for g c) 0 ≡ Some l → Completes g.abs (language_of g.abs cat l) cat words items →
       Makes g c (a_text words) (Ok items)
   too_long : {words r : _} → text_refusal words ≡ Some r → Makes g c (a_text words) (Err r)
   linearized : {t cat : _} (texts : List (List (List (List ℕ)))) → c.verb ≡ Linearize → IsSolvable g.abs t →
-      category_for g.abs c.cat ≡ Some cat →
-      AllZip (λ l. AreTexts (language_of g.abs cat l) t) (languages_for g.languages c.lang) texts →
+      category_for g c ≡ Some cat → AllZip (λ l. AreTexts (language_of g.abs cat l) t) (languages_for g c) texts →
       Makes g c (a_tree t) (Ok (flat_map (map a_text) texts))
   unsolved : {t r : _} → IsUnsolved g.abs t r → Makes g c (a_tree t) (Err r)
   passed : {line : _} → Makes g c (a_line line) (Ok (a_line line ∷ []))
@@ -122,11 +105,3 @@ pub data Runs (g : Loaded) : List Command → List Item → Result (List Item) R
   next : {c cs items : _} (made : List (List Item)) {result : _} → InTurn (Makes g c) items (Ok made) →
       Runs g cs (flat_map (λ xs. xs) made) result → Runs g (c ∷ cs) items result
   refused : {c cs items r : _} → InTurn (Makes g c) items (Err r) → Runs g (c ∷ cs) items (Err r)
-
--- what the first command of a pipe works on
-abbrev pub item_of : Argument → Option Item
-item_of command.Nothing = None
-item_of (command.Files names) = None
-item_of (command.Words words) = Some (a_text words)
-item_of (command.Tree t) = Some (a_tree t)
-item_of (command.Name name) = None
