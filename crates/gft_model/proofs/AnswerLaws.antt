@@ -12,7 +12,8 @@ use Rattle.gft_io.specs.Outside.{Files}
 use Rattle.gft_pmcfg.specs.declared.concrete.Concrete.{Concrete}
 use Rattle.gft_pmcfg.specs.declared.grammar.Grammar.{Grammar}
 use Rattle.gft_rules.specs.declared.refusal.Refusal.{Refusal}
-use Rattle.gft_model.specs.Commands.{Verb, Argument, Item, Given, a_text, Command, option_of, refusal, InTurn, Read, EndsIn, portable_ending}
+use Rattle.gft_model.specs.Commands.{Verb, Argument, Item, Given, a_text, Command, option_of, InTurn, Read, EndsIn, portable_ending}
+use Rattle.gft_model.specs.Refusals.{placeless}
 use Rattle.std.specs.FinMap.{get, insert, get-insert}
 use Rattle.gft_model.specs.AbstractInfo.{judgement_lines}
 use Rattle.gft_pmcfg.specs.declared.signature.Abstract.{Abstract}
@@ -140,7 +141,7 @@ lacks_once (no_such_language f l k h) (no_grammar e i m q) = cc
 lacks_once (no_such_language {g = h} e n o u) (no_language {g} f l k) =
     let same : g ≡ h = cc in absurd (n (sym (ap (λ x. x.languages) same) ∙ l))
 lacks_once (no_such_language {name} f l k h) (no_such_language {name = other} e n o u) =
-    let same : name ≡ other = cc in ap (λ x. refusal NoSuchLanguage (x ∷ [])) same
+    let same : name ≡ other = cc in ap (λ x. placeless NoSuchLanguage (x ∷ [])) same
 lacks_once {c = c} (no_such_language {g} f l k h) (no_such_category {g = i} e n o u) =
     let same : g ≡ i = cc in absurd (n (ap (λ x. languages_for x c) (sym same) ∙ h))
 lacks_once (no_such_category f l k h) (no_grammar e i m q) = cc
@@ -149,7 +150,7 @@ lacks_once {c = c} (no_such_category {g = h} e n o u) (no_language {g} f l k) =
 lacks_once {c = c} (no_such_category {g = i} e n o u) (no_such_language {g} f l k h) =
     let same : g ≡ i = cc in absurd (n (ap (λ x. languages_for x c) (sym same) ∙ h))
 lacks_once (no_such_category {name} f l k h) (no_such_category {name = other} e n o u) =
-    let same : name ≡ other = cc in ap (λ x. refusal NoSuchCategory (x ∷ [])) same
+    let same : name ≡ other = cc in ap (λ x. placeless NoSuchCategory (x ∷ [])) same
 
 lacks_first_once : {state : State} {cs : List Command} {r s : Refusal} → LacksFirst state cs r → LacksFirst state cs s → r ≡ s
 lacks_first_once (here d) (here e) = lacks_once d e

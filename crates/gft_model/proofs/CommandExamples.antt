@@ -11,7 +11,8 @@ use Rattle.gft_rules.specs.declared.rule.Rule.TheVariants.{UnknownCommand, BadOp
 use Rattle.gft_tree.specs.Grammar as grammar
 use Rattle.gft_tree.specs.Lexemes as lexeme
 use Rattle.gft_tree.specs.Spelling.{Spells}
-use Rattle.gft_model.specs.Commands.{Verb, Empty, Parse, Linearize, AbstractInfo, Argument, Nothing, Command, Read, Pipe, Refused, refusal, parts, pipes_of, argument_of, bad_option, keys_of, IsArgument, files, of_empty, to_parse, to_linearize, bare, not_called, read, none, more, refused, AreJoined, last, next, ReadsPipe, pipe, bad_pipe, pipe_refused, ReadsLine}
+use Rattle.gft_model.specs.Commands.{Verb, Empty, Parse, Linearize, AbstractInfo, Argument, Nothing, Command, Read, Pipe, Refused, parts, pipes_of, argument_of, bad_option, keys_of, IsArgument, files, of_empty, to_parse, to_linearize, bare, not_called, read, none, more, refused, AreJoined, last, next, ReadsPipe, pipe, bad_pipe, pipe_refused, ReadsLine}
+use Rattle.gft_model.specs.Refusals.{placeless}
 
 -- a command
 abbrev pub command : Verb → List (List ℕ) → Argument → Command
@@ -53,7 +54,7 @@ twice = refl
 empties : ReadsPipe (codes " e ") (Pipe (command Empty [] Nothing ∷ []))
 empties = pipe (more (read refl of_empty) none) last
 
-unknown : ReadsPipe (codes " frob ") (Refused (refusal UnknownCommand (codes "frob" ∷ [])))
+unknown : ReadsPipe (codes " frob ") (Refused (placeless UnknownCommand (codes "frob" ∷ [])))
 unfolding lib.Utf8.encode
 unknown = pipe_refused (refused (not_called refl))
 
@@ -61,21 +62,21 @@ unknown = pipe_refused (refused (not_called refl))
 abbrev pub empty : Read
 empty = Pipe (command Empty [] Nothing ∷ [])
 
-pub line : ReadsLine (codes "e ; frob ; e") (empty ∷ Refused (refusal UnknownCommand (codes "frob" ∷ [])) ∷ empty ∷ [])
+pub line : ReadsLine (codes "e ; frob ; e") (empty ∷ Refused (placeless UnknownCommand (codes "frob" ∷ [])) ∷ empty ∷ [])
 line =
     let first : ReadsPipe (codes "e ") empty = pipe (more (read refl of_empty) none) last in
     let third : ReadsPipe (codes " e") empty = pipe (more (read refl of_empty) none) last in
     (first, (unknown, (third, tt)))
 
-hyphens : ReadsPipe (codes " -- x") (Refused (refusal UnknownCommand (codes "--" ∷ [])))
+hyphens : ReadsPipe (codes " -- x") (Refused (placeless UnknownCommand (codes "--" ∷ [])))
 unfolding lib.Utf8.encode
 hyphens = pipe_refused (refused (not_called refl))
 
 -- a blank command beside a bar has the empty name
-blank_command : ReadsPipe (codes "| e") (Refused (refusal UnknownCommand ([] ∷ [])))
+blank_command : ReadsPipe (codes "| e") (Refused (placeless UnknownCommand ([] ∷ [])))
 blank_command = pipe_refused (refused (not_called refl))
 
-too_deep : ReadsPipe (codes "p -depth=65 \"a\"") (Refused (refusal BadOption (codes "-depth=65" ∷ [])))
+too_deep : ReadsPipe (codes "p -depth=65 \"a\"") (Refused (placeless BadOption (codes "-depth=65" ∷ [])))
 unfolding is_xid_start is_xid_continue xid_start_ranges xid_continue_ranges in_ranges lib.Utf8.encode
 too_deep = pipe_refused (refused (not_called refl))
 
@@ -93,7 +94,7 @@ a_is_spelled = (
 not_joined : (argument : Argument) → ¬ AreJoined (command Linearize [] argument) (command AbstractInfo [] Nothing ∷ [])
 not_joined argument (next follows nothing others) = elim follows [ ]
 
-informs : ReadsPipe (codes "l a | ai") (Refused (refusal BadPipe []))
+informs : ReadsPipe (codes "l a | ai") (Refused (placeless BadPipe []))
 informs = bad_pipe (more (read refl (to_linearize a_is_spelled))
     (more (read refl (bare refl)) none)) (not_joined _)
 

@@ -17,7 +17,8 @@ use Rattle.gft_tree.specs.Spelling.{Spells}
 use Rattle.gft_tree.specs.Trees.{quoted}
 use Rattle.gft_tree.proofs.AnswerLemmas.{spells_reads}
 use Rattle.gft_core.specs.declared.tree.Tree.{Tree}
-use Rattle.gft_model.specs.Commands.{Verb, Argument, Nothing, Files, Given, a_tree, a_text, words_in, AreFileNames, of_import, of_write_portable, refusal, tree_rule, Command, Read, IsArgument, files, of_empty, of_quit, to_parse, to_complete, to_linearize, by_name, all, bare, HasBadArgument, of_tree, other, called, ReadsCommand, not_called, argument_refused, read, InTurn, none, more, refused, refused_later, AreJoined, ReadsCommands, ReadsPipe, pipe, bad_pipe, pipe_refused, ReadsLine, argument_of, options_of, pipes_of}
+use Rattle.gft_model.specs.Commands.{Verb, Argument, Nothing, Files, Given, a_tree, a_text, words_in, AreFileNames, of_import, of_write_portable, tree_rule, Command, Read, IsArgument, files, of_empty, of_quit, to_parse, to_complete, to_linearize, by_name, all, bare, HasBadArgument, of_tree, other, called, ReadsCommand, not_called, argument_refused, read, InTurn, none, more, refused, refused_later, AreJoined, ReadsCommands, ReadsPipe, pipe, bad_pipe, pipe_refused, ReadsLine, argument_of, options_of, pipes_of}
+use Rattle.gft_model.specs.Refusals.{placeless}
 
 -- what each gives in turn is determined where each by itself is
 pub in_turn_once : {A B : Type 0} {R : A → Result B Refusal → Type 0}
@@ -149,7 +150,7 @@ argument_once (by_name n) (by_name m) = refl
 
 bad_once : {later : Bool} {verb : Verb} {text : List ℕ} {r s : Refusal} → HasBadArgument later verb text r
     → HasBadArgument later verb text s → r ≡ s
-bad_once (of_tree l d) (of_tree m e) = ap (λ f. refusal (tree_rule f) (decimal (place_of f) ∷ [])) (fault_once d e)
+bad_once (of_tree l d) (of_tree m e) = ap (λ f. placeless (tree_rule f) (decimal (place_of f) ∷ [])) (fault_once d e)
 bad_once (of_tree l d) (other n never) = absurd (n refl)
 bad_once (other n never) (of_tree l e) = absurd (n refl)
 bad_once (other n never) (other m nothing) = refl

@@ -11,7 +11,8 @@ use Rattle.gft_pmcfg.specs.declared.signature.Fun.{Fun}
 use Rattle.gft_rules.specs.declared.refusal.Refusal.{Refusal}
 use Rattle.gft_rules.specs.declared.rule.Rule.TheVariants.{UnknownFun}
 use Rattle.gft_model.specs.Brackets.{Piece, Mark, grammar, erased, marked}
-use Rattle.gft_model.specs.Commands.{a_tree, a_line, refusal}
+use Rattle.gft_model.specs.Commands.{a_tree, a_line}
+use Rattle.gft_model.specs.Refusals.{placeless}
 use Rattle.gft_model.specs.Cut.{Cutting, cut_of, cut_step}
 use Rattle.gft_model.proofs.Layers.{by_layers-App}
 use Rattle.gft_model.specs.Listing.{IsListed, IsBefore}
@@ -162,7 +163,7 @@ unsolvable s =
     no_type typed.0 typed.2 (subst (λ (t : Tree). typing.HasType dead typed.0 t typed.2) same typed.3)
 
 -- `l nope` is refused
-unknown : IsUnsolved dead (App (codes "nope") []) (refusal UnknownFun (codes "nope" ∷ []))
+unknown : IsUnsolved dead (App (codes "nope") []) (placeless UnknownFun (codes "nope" ∷ []))
 unknown = record {
   unsolvable = unsolvable;
   reason = wrong {p = []} {kind = 0} (unknown_fun (record { subtree = _; stands = refl; applies = outs-App _ _ }) refl)

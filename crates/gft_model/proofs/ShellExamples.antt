@@ -9,7 +9,8 @@ use Rattle.gft_io.specs.Outside.{Files}
 use Rattle.gft_rules.specs.declared.refusal.Refusal.{Refusal}
 use Rattle.gft_rules.specs.declared.rule.Rule.TheVariants.{NoGrammar, NoSuchLanguage}
 use Rattle.gft_model.specs.Commands as commands
-use Rattle.gft_model.specs.Commands.{Verb, Import, Empty, Quit, Parse, WritePortable, Argument, Nothing, Given, a_text, Read, Pipe, refusal, keys_of}
+use Rattle.gft_model.specs.Commands.{Verb, Import, Empty, Quit, Parse, WritePortable, Argument, Nothing, Given, a_text, Read, Pipe, keys_of}
+use Rattle.gft_model.specs.Refusals.{placeless}
 use Rattle.gft_model.specs.PortableFile.{file_of}
 use Rattle.gft_model.specs.Shell.{Held, grammar_line, refusing, replying, no_grammar, no_language, no_such_language, no_such_category, LacksFirst, here, later, Does, empties, quits, writes, save_failed, PipeSteps, done, lacking, InOrder, none, last, more, read, IsAnswer}
 use Rattle.gft_model.specs.Shell as shell
@@ -47,7 +48,7 @@ one_refusal S held =
 -- an empty session has no grammar
 nothing_to_parse : (S : Sources) (files : Files) → PipeSteps S (record { state = None; files = files })
     (Pipe (command Parse [] (Given (a_text [])) ∷ []))
-    (refusing (record { state = None; files = files }) (refusal NoGrammar []) [])
+    (refusing (record { state = None; files = files }) (placeless NoGrammar []) [])
 nothing_to_parse S files = lacking (here (no_grammar refl (λ e. cc) (λ e. cc) (λ e. cc)))
 
 -- nothing runs after `quit`
@@ -62,7 +63,7 @@ tiny_state = Some (record { abs = abs; languages = (codes "TE", of_file eng) ∷
 -- the language is looked for before the category, which is not there either
 language_first : LacksFirst tiny_state
     (command Parse (codes "-cat=B" ∷ codes "-lang=A" ∷ []) (Given (a_text [])) ∷ [])
-    (refusal NoSuchLanguage (codes "A" ∷ []))
+    (placeless NoSuchLanguage (codes "A" ∷ []))
 unfolding lib.Utf8.encode
 language_first = here (no_such_language refl (λ e. cc) refl refl)
 

@@ -11,7 +11,7 @@ use Rattle.gft_pmcfg.specs.declared.signature.AType.{AType}
 use Rattle.gft_pmcfg.specs.declared.signature.Fun.{Fun}
 use Rattle.gft_rules.specs.declared.refusal.Refusal.{Refusal}
 use Rattle.gft_rules.specs.declared.rule.Rule.TheVariants.{WrongCategory}
-use Rattle.gft_model.specs.Commands.{refusal}
+use Rattle.gft_model.specs.Refusals.{placeless}
 use Rattle.gft_model.specs.Trees.{subtree_at, subtree_of, child_at, filled}
 use Rattle.gft_model.specs.Typing.{HoleTypes, HasType, HaveTypes, type_at}
 use Rattle.gft_model.specs.Unsolved.{AppliesAt, MustHave, argument, HasCategory, application, integer, text, hole, IsWrongAt, unknown_fun, wrong_arity, wrong_category, ComesFirst, function_named, wrong, IsSolvable, IsUnsolved}
@@ -129,7 +129,7 @@ unsolvable s =
     no_type typed.0 typed.2 (subst (λ (t : Tree). HasType home typed.0 t typed.2) same typed.3)
 
 -- `l Do fan fan nope` is refused for its second argument, not for the unknown function after it
-refused : IsUnsolved home tree (refusal WrongCategory (codes "Action" ∷ codes "Kind" ∷ []))
+refused : IsUnsolved home tree (placeless WrongCategory (codes "Action" ∷ codes "Kind" ∷ []))
 refused = record {
   unsolvable = unsolvable;
   reason = wrong {p = 2 ∷ []} {kind = 2} (wrong_category must_two has_two (λ e. absurd (omega (arith, e)))) first;

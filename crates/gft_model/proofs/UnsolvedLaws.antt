@@ -14,7 +14,7 @@ use Rattle.gft_pmcfg.specs.declared.signature.Abstract.{Abstract}
 use Rattle.gft_pmcfg.specs.declared.signature.Fun.{Fun}
 use Rattle.gft_rules.specs.declared.refusal.Refusal.{Refusal}
 use Rattle.gft_rules.specs.declared.rule.Rule.TheVariants.{UnknownFun, WrongArity, WrongCategory, IllTyped}
-use Rattle.gft_model.specs.Commands.{refusal}
+use Rattle.gft_model.specs.Refusals.{placeless}
 use Rattle.gft_model.specs.States.{category_name}
 use Rattle.gft_model.specs.Trees.{subtree_at, text_of}
 use Rattle.gft_model.specs.Unsolved.{IsNotAfter, AppliesAt, HoleAt, function_named, MustHave, argument, HasCategory, application, integer, text, hole, IsWrongAt, unknown_fun, wrong_arity, wrong_category, ComesFirst, IsBefore, within, left, IsReason, wrong, ill_typed}
@@ -123,11 +123,11 @@ module _ (a : Abstract) (t : Tree) where
       must_once (subst (λ v. MustHave a t v c) places m) n
 
   wrong_once : {p : List ℕ} {k : ℕ} {r s : Refusal} → IsWrongAt a t p k r → IsWrongAt a t p k s → r ≡ s
-  wrong_once (unknown_fun x e) (unknown_fun y f) = ap (λ n. refusal UnknownFun (n ∷ [])) (applies_once x y).0
-  wrong_once (wrong_arity x e n) (wrong_arity y f m) = ap (λ n. refusal WrongArity (n ∷ [])) (applies_once x y).0
+  wrong_once (unknown_fun x e) (unknown_fun y f) = ap (λ n. placeless UnknownFun (n ∷ [])) (applies_once x y).0
+  wrong_once (wrong_arity x e n) (wrong_arity y f m) = ap (λ n. placeless WrongArity (n ∷ [])) (applies_once x y).0
   wrong_once (wrong_category {wanted} {found} m h n) (wrong_category {wanted = c} {found = d} o i l) =
-      ap (λ k. refusal WrongCategory (category_name a k ∷ category_name a found ∷ [])) (must_once m o)
-      ∙ ap (λ k. refusal WrongCategory (category_name a c ∷ category_name a k ∷ [])) (has_once h i)
+      ap (λ k. placeless WrongCategory (category_name a k ∷ category_name a found ∷ [])) (must_once m o)
+      ∙ ap (λ k. placeless WrongCategory (category_name a c ∷ category_name a k ∷ [])) (has_once h i)
 
   pub reason_once : {r s : Refusal} → IsReason a t r → IsReason a t s → r ≡ s
   reason_once {s = s} (wrong {p} {kind} w f) (wrong {p = q} {kind = k} v g) =
@@ -136,8 +136,8 @@ module _ (a : Abstract) (t : Tree) where
   reason_once (wrong w f) (ill_typed none e n b) = absurd (none _ _ _ w)
   reason_once (ill_typed none e n b) (wrong w f) = absurd (none _ _ _ w)
   reason_once (ill_typed {p} {u} none e n b) (ill_typed {p = q} {u = v} never f m c) = of_compared (compared p q) where
-    of_compared : Compared p q → refusal IllTyped (text_of u ∷ []) ≡ refusal IllTyped (text_of v ∷ [])
+    of_compared : Compared p q → placeless IllTyped (text_of u ∷ []) ≡ placeless IllTyped (text_of v ∷ [])
     of_compared (same h) = let trees : u ≡ v = let x = ap (subtree_at t) h in cc in
-        ap (λ x. refusal IllTyped (text_of x ∷ [])) trees
+        ap (λ x. placeless IllTyped (text_of x ∷ [])) trees
     of_compared (first h) = absurd (n (c p u h e))
     of_compared (later h) = absurd (m (b q v h f))

@@ -14,6 +14,7 @@ use Rattle.gft_io.specs.Lines.{with_first}
 use Rattle.gft_rules.specs.declared.refusal.Refusal.{Refusal}
 use Rattle.gft_rules.specs.declared.rule.Rule.{Rule}
 use Rattle.gft_rules.specs.declared.rule.Rule.TheVariants.{UnknownCommand, BadOption, BadArgument, BadPipe, TreeSyntax, TreeTooDeep, BadLiteral}
+use Rattle.gft_model.specs.Refusals.{placeless}
 use Rattle.gft_tree.specs.declared.error.TreeErr.{TreeErr}
 use Rattle.gft_tree.specs.declared.error.TreeErr.TheVariants as fault
 use Rattle.gft_tree.specs.Faults.{IsRefused, place_of}
@@ -48,10 +49,6 @@ pub record Command : Type 0 where
 pub data Read : Type 0 where
   Pipe : List Command → Read
   Refused : Refusal → Read
-
--- a refusal without a place
-abbrev pub refusal : Rule → List (List ℕ) → Refusal
-refusal rule names = record { rule = rule; place = None; names = names }
 
 -- A line is characters here, and so are its parts.
 
@@ -202,15 +199,15 @@ tree_rule e = TreeSyntax
 -- the refusal of a text that is no argument of the command: the first fault of a tree, with its offset in bytes
 pub data HasBadArgument (later : Bool) : Verb → List ℕ → Refusal → Type 0 where
   of_tree : {text e : _} → (later ≡ true → text ≢ []) → IsRefused text e →
-      HasBadArgument later Linearize text (refusal (tree_rule e) (decimal (place_of e) ∷ []))
+      HasBadArgument later Linearize text (placeless (tree_rule e) (decimal (place_of e) ∷ []))
   other : {verb text : _} → verb ≢ Linearize → ((a : Argument) → ¬ IsArgument later verb text a) →
-      HasBadArgument later verb text (refusal BadArgument [])
+      HasBadArgument later verb text (placeless BadArgument [])
 
 -- the command that a text calls with its options, or the refusal of its name or of an option
 abbrev pub called : List ℕ → Result Verb Refusal
 called text = elim (verb_of text) [
-  | None ↦ Err (refusal UnknownCommand (encode_utf8_all (name_of text) ∷ []))
-  | Some verb ↦ option_map_or (λ word. Err (refusal BadOption (encode_utf8_all word ∷ [])))
+  | None ↦ Err (placeless UnknownCommand (encode_utf8_all (name_of text) ∷ []))
+  | Some verb ↦ option_map_or (λ word. Err (placeless BadOption (encode_utf8_all word ∷ [])))
       (bad_option (keys_of verb) (options_of text)) (Ok verb)
 ]
 
@@ -252,7 +249,7 @@ pub data AreJoined : Command → List Command → Type 0 where
 -- what the text of a pipe is read as
 pub data ReadsPipe (text : List ℕ) : Read → Type 0 where
   pipe : {c cs : _} → ReadsCommands text (Ok (c ∷ cs)) → AreJoined c cs → ReadsPipe text (Pipe (c ∷ cs))
-  bad_pipe : {c cs : _} → ReadsCommands text (Ok (c ∷ cs)) → ¬ AreJoined c cs → ReadsPipe text (Refused (refusal BadPipe []))
+  bad_pipe : {c cs : _} → ReadsCommands text (Ok (c ∷ cs)) → ¬ AreJoined c cs → ReadsPipe text (Refused (placeless BadPipe []))
   pipe_refused : {r : _} → ReadsCommands text (Err r) → ReadsPipe text (Refused r)
 
 -- what the characters of a line are read as: each of its pipes, in order

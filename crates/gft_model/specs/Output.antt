@@ -5,7 +5,8 @@ use Rattle.std.specs.Str.Parse.{digits_value}
 use Rattle.gft_io.specs.Lines.{lines_of}
 use Rattle.gft_io.specs.Outside.{Files}
 use Rattle.gft_rules.specs.declared.rule.Rule.TheVariants.{BadArgument}
-use Rattle.gft_model.specs.Commands.{Verb, Import, WritePortable, Pipe, AreFileNames, refusal, is_decimal_to, begins_with_hyphen}
+use Rattle.gft_model.specs.Commands.{Verb, Import, WritePortable, Pipe, AreFileNames, is_decimal_to, begins_with_hyphen}
+use Rattle.gft_model.specs.Refusals.{placeless}
 use Rattle.gft_model.specs.Commands as argument
 use Rattle.gft_model.specs.Shell.{Held, Answer, replying, refusing, InOrder, PipeSteps, Steps}
 use Rattle.gft_model.specs.States.{Sources}
@@ -63,7 +64,7 @@ module _ (S : Sources) where
     good_names : {a : _} → AreFileNames verb names →
         PipeSteps S held (Pipe (record { verb = verb; options = []; argument = argument.Files names } ∷ [])) a →
         FilesStep held verb names a
-    bad_names : ¬ AreFileNames verb names → FilesStep held verb names (refusing held (refusal BadArgument []) [])
+    bad_names : ¬ AreFileNames verb names → FilesStep held verb names (refusing held (placeless BadArgument []) [])
 
   -- what a run answers over the words, the input and the files: its replies are the output, in their order
   pub data Output (words : List (List ℕ)) (input : List ℕ) (files : Files) : List Answer → Type 0 where

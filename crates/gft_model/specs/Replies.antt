@@ -11,7 +11,8 @@ use Rattle.gft_rules.specs.declared.refusal.Refusal.{Refusal}
 use Rattle.gft_rules.specs.declared.rule.Rule.TheVariants.{TooManyWords, TokenTooLong}
 use Rattle.gft_tree.specs.Trees.{quoted}
 use Rattle.gft_model.specs.Brackets.{Piece, erased}
-use Rattle.gft_model.specs.Commands.{Command, Parse, Linearize, Complete, Item, a_tree, a_text, a_line, option_of, InTurn, refusal}
+use Rattle.gft_model.specs.Commands.{Command, Parse, Linearize, Complete, Item, a_tree, a_text, a_line, option_of, InTurn}
+use Rattle.gft_model.specs.Refusals.{placeless}
 use Rattle.gft_model.specs.Listing.{Language, IsBefore, IsListing}
 use Rattle.gft_model.specs.Sentences.{IsSentence, Begins, IsNext, a_word, any_integer, any_string}
 use Rattle.gft_model.specs.States.{Kept, Languages, Loaded, category_number, language_of}
@@ -36,8 +37,8 @@ languages_for g c = option_map_or (λ name. filter (λ (l : List ℕ × Kept). b
 -- a text has at most 512 words, each of at most 1,024 bytes
 abbrev pub text_refusal : List (List ℕ) → Option Refusal
 text_refusal words =
-    if nat_lt 512 (length words) then Some (refusal TooManyWords (decimal (length words) ∷ []))
-    else option_map (λ i. refusal TokenTooLong (decimal (suc i) ∷ [])) (position (λ w. nat_lt 1024 (length w)) words)
+    if nat_lt 512 (length words) then Some (placeless TooManyWords (decimal (length words) ∷ []))
+    else option_map (λ i. placeless TokenTooLong (decimal (suc i) ∷ [])) (position (λ w. nat_lt 1024 (length w)) words)
 
 -- the words before this one begin a sentence, and with it they do not
 pub record FailsAt (a : Abstract) (L : Language) (cat : ℕ) (words before : List (List ℕ)) (word : List ℕ) : Type 0 where

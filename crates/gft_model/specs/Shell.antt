@@ -13,7 +13,8 @@ use Rattle.gft_rules.specs.declared.refusal.Refusal.{Refusal}
 use Rattle.gft_rules.specs.declared.rule.Rule.{Rule}
 use Rattle.gft_rules.specs.declared.rule.Rule.TheVariants.{NoGrammar, NoLanguage, NoSuchLanguage, NoSuchCategory, UnknownName, CannotRead, CannotWrite, PortableTooLong, LineTooLong, LineNotUtf8}
 use Rattle.gft_model.specs.AbstractInfo.{judgement_lines}
-use Rattle.gft_model.specs.Commands.{Verb, Import, Empty, Quit, AbstractInfo, WritePortable, Argument, Nothing, Item, Given, Name, Command, Read, Pipe, Refused, refusal, keys_of, option_of, ReadsLine}
+use Rattle.gft_model.specs.Commands.{Verb, Import, Empty, Quit, AbstractInfo, WritePortable, Argument, Nothing, Item, Given, Name, Command, Read, Pipe, Refused, keys_of, option_of, ReadsLine}
+use Rattle.gft_model.specs.Refusals.{placeless}
 use Rattle.gft_model.specs.Commands as argument
 use Rattle.gft_model.specs.Loading.{most_portable_bytes}
 use Rattle.gft_model.specs.PortableFile.{Reads}
@@ -45,7 +46,7 @@ refusing after r loaded = record (replying after (refusals.line_of r loaded ∷ 
 
 -- the refusal of a file that could not be loaded or saved
 abbrev pub failing : Held → Rule → List ℕ → Answer
-failing after rule file = record (refusing after (refusal rule (file ∷ [])) []) { failures = 1 }
+failing after rule file = record (refusing after (placeless rule (file ∷ [])) []) { failures = 1 }
 
 -- what the commands of a pipe give in the end
 abbrev pub ran : Held → Result (List Item) Refusal → Answer
@@ -54,13 +55,13 @@ ran held (Err r) = refusing held r []
 
 -- what the state lacks for a command: a grammar, any language, or the language or category that it names
 pub data Lacks (state : State) (c : Command) : Refusal → Type 0 where
-  no_grammar : state ≡ None → c.verb ≢ Import → c.verb ≢ Empty → c.verb ≢ Quit → Lacks state c (refusal NoGrammar [])
+  no_grammar : state ≡ None → c.verb ≢ Import → c.verb ≢ Empty → c.verb ≢ Quit → Lacks state c (placeless NoGrammar [])
   no_language : {g : Loaded} → state ≡ Some g → g.languages ≡ [] → Contains (keys_of c.verb) (codes "-lang=") →
-      Lacks state c (refusal NoLanguage [])
+      Lacks state c (placeless NoLanguage [])
   no_such_language : {g : Loaded} {name : _} → state ≡ Some g → g.languages ≢ [] →
-      option_of (codes "-lang=") c ≡ Some name → languages_for g c ≡ [] → Lacks state c (refusal NoSuchLanguage (name ∷ []))
+      option_of (codes "-lang=") c ≡ Some name → languages_for g c ≡ [] → Lacks state c (placeless NoSuchLanguage (name ∷ []))
   no_such_category : {g : Loaded} {name : _} → state ≡ Some g → languages_for g c ≢ [] →
-      option_of (codes "-cat=") c ≡ Some name → category_for g c ≡ None → Lacks state c (refusal NoSuchCategory (name ∷ []))
+      option_of (codes "-cat=") c ≡ Some name → category_for g c ≡ None → Lacks state c (placeless NoSuchCategory (name ∷ []))
 
 -- the first that the commands lack, from left to right
 pub data LacksFirst (state : State) : List Command → Refusal → Type 0 where
@@ -113,7 +114,7 @@ module _ (S : Sources) where
     informs_of : {g : Loaded} {name : _} → held.state ≡ Some g → judgement_lines g.abs (bytes_eq name) ≢ [] →
         Does held AbstractInfo (Name name) (replying held (judgement_lines g.abs (bytes_eq name)))
     unknown_name : {g : Loaded} {name : _} → held.state ≡ Some g → judgement_lines g.abs (bytes_eq name) ≡ [] →
-        Does held AbstractInfo (Name name) (refusing held (refusal UnknownName (name ∷ [])) [])
+        Does held AbstractInfo (Name name) (refusing held (placeless UnknownName (name ∷ [])) [])
     writes : {file bytes : _} → IsFileOf held.state bytes → length bytes ≤ most_portable_bytes →
         Does held WritePortable (argument.Files (file ∷ []))
         (replying (record held { files = insert held.files file bytes }) (wrote_line file (length bytes) ∷ []))
@@ -121,7 +122,7 @@ module _ (S : Sources) where
         KeepsOthers file held.files left →
         Does held WritePortable (argument.Files (file ∷ [])) (failing (record held { files = left }) CannotWrite file)
     portable_too_long : {file bytes : _} → IsFileOf held.state bytes → most_portable_bytes < length bytes →
-        Does held WritePortable (argument.Files (file ∷ [])) (refusing held (refusal PortableTooLong (file ∷ [])) [])
+        Does held WritePortable (argument.Files (file ∷ [])) (refusing held (placeless PortableTooLong (file ∷ [])) [])
 
   -- what a pipe answers
   pub data PipeSteps (held : Held) : Read → Answer → Type 0 where
@@ -135,8 +136,8 @@ module _ (S : Sources) where
 
   -- what a session answers to a line of bytes
   pub data Steps (held : Held) (line : List ℕ) : Answer → Type 0 where
-    too_long : line_limit < length line → Steps held line (refusing held (refusal LineTooLong []) [])
-    not_utf8 : length line ≤ line_limit → ¬ IsUtf8 line → Steps held line (refusing held (refusal LineNotUtf8 []) [])
+    too_long : line_limit < length line → Steps held line (refusing held (placeless LineTooLong []) [])
+    not_utf8 : length line ≤ line_limit → ¬ IsUtf8 line → Steps held line (refusing held (placeless LineNotUtf8 []) [])
     read : {reads answers : _} → length line ≤ line_limit → IsUtf8 line → ReadsLine (chars line) reads →
         InOrder PipeSteps held reads answers → Steps held line (whole held answers)
 

@@ -9,7 +9,7 @@ use Rattle.gft_pmcfg.specs.declared.signature.Abstract.{Abstract}
 use Rattle.gft_pmcfg.specs.declared.signature.Fun.{Fun}
 use Rattle.gft_rules.specs.declared.refusal.Refusal.{Refusal}
 use Rattle.gft_rules.specs.declared.rule.Rule.TheVariants.{UnknownFun, WrongArity, WrongCategory, IllTyped}
-use Rattle.gft_model.specs.Commands.{refusal}
+use Rattle.gft_model.specs.Refusals.{placeless}
 use Rattle.gft_model.specs.Solutions.{IsSolution}
 use Rattle.gft_model.specs.States.{category_name}
 use Rattle.gft_model.specs.Trees.{IsApplication, IsInteger, IsString, IsHole, subtree_at, text_of}
@@ -55,11 +55,11 @@ pub data HasCategory (a : Abstract) (t : Tree) (p : List ℕ) : ℕ → Type 0 w
 -- arguments, an argument of another category
 pub data IsWrongAt (a : Abstract) (t : Tree) (p : List ℕ) : ℕ → Refusal → Type 0 where
   unknown_fun : {name ts : _} → AppliesAt t p name ts → function_named a.funs name ≡ None →
-      IsWrongAt a t p 0 (refusal UnknownFun (name ∷ []))
+      IsWrongAt a t p 0 (placeless UnknownFun (name ∷ []))
   wrong_arity : {name : _} {f : Fun} {ts : _} → AppliesAt t p name ts → function_named a.funs name ≡ Some f →
-      length ts ≢ length f.args → IsWrongAt a t p 1 (refusal WrongArity (name ∷ []))
+      length ts ≢ length f.args → IsWrongAt a t p 1 (placeless WrongArity (name ∷ []))
   wrong_category : {wanted found : _} → MustHave a t p wanted → HasCategory a t p found → wanted ≢ found →
-      IsWrongAt a t p 2 (refusal WrongCategory (category_name a wanted ∷ category_name a found ∷ []))
+      IsWrongAt a t p 2 (placeless WrongCategory (category_name a wanted ∷ category_name a found ∷ []))
 
 -- by position in pre-order, and at one position by kind
 abbrev pub ComesFirst : List ℕ → ℕ → List ℕ → ℕ → Type 0
@@ -79,7 +79,7 @@ pub data IsReason (a : Abstract) (t : Tree) : Refusal → Type 0 where
       ((q : List ℕ) (other : ℕ) (s : Refusal) → IsWrongAt a t q other s → ComesFirst p kind q other) → IsReason a t r
   ill_typed : {p u : _} → ((q : List ℕ) (kind : ℕ) (s : Refusal) → ¬ IsWrongAt a t q kind s) → subtree_at t p ≡ Some u →
       ¬ IsSolvable a u → ((q : List ℕ) (v : Tree) → IsBefore q p → subtree_at t q ≡ Some v → IsSolvable a v) →
-      IsReason a t (refusal IllTyped (text_of u ∷ []))
+      IsReason a t (placeless IllTyped (text_of u ∷ []))
 
 -- the refusal of a tree without a solution
 pub record IsUnsolved (a : Abstract) (t : Tree) (r : Refusal) : Type 0 where
