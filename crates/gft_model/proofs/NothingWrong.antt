@@ -11,9 +11,11 @@ use Rattle.gft_rules.specs.declared.refusal.Refusal.{Refusal}
 use Rattle.gft_model.specs.Laws.{AreNamedApart}
 use Rattle.gft_model.specs.Skeleton.{HoleCategories, HasSkeletonType, HaveSkeletonTypes, AreSingle, categories_of, hole, integer, text, application, none, more}
 use Rattle.gft_model.specs.Trees.{IsApplication, IsInteger, IsString, IsHole, child_at, subtree_of, subtree_at}
-use Rattle.gft_model.specs.Unsolved.{AppliesAt, HoleAt, MustHave, argument, HasCategory, IsWrongAt, unknown_fun, wrong_arity, wrong_category, function_named}
+use Rattle.gft_model.specs.Unsolved.{layer_at, MustHave, argument, HasCategory, IsWrongAt, unknown_fun, wrong_arity, wrong_category, function_named}
 use Rattle.gft_tree.specs.Trees.{child_in}
 use Rattle.gft_model.specs.Unsolved as unsolved
+use Rattle.gft_core.specs.declared.tree.Tree.TheOpen as layer
+use Rattle.gft_model.proofs.TreeLemmas.{standing}
 
 -- WHERE A SUBTREE STANDS
 
@@ -156,33 +158,39 @@ module _ (a : Abstract) (K : HoleCategories) where
     same_function {name} {f = f} x e =
         let is = name_is a.funs name f e in apart x.function f x.listed is.0 (x.is_named ∙ sym is.1)
 
-    applied : {p name : List ℕ} {ts : List Tree} (x : AppliesAt t p name ts)
-        → (d : ℕ) × HasSkeletonType a K x.subtree d × Applies name ts d
-    applied {p} {name} {ts} x =
-        let d = stands p typed x.stands in (d.0, d.1, applies name ts x.applies d.1)
+    applied : (p : List ℕ) {name : List ℕ} {ts : List Tree} → layer_at t p ≡ Some (layer.App name ts) → (d : ℕ) × Applies name ts d
+    applied p {name} {ts} x =
+        let s = standing (subtree_at t p) (layer.App name ts) x in
+        let d = stands p typed s.1 in (d.0, applies name ts s.2 d.1)
 
     must : {p : List ℕ} {s : Tree} {wanted : ℕ} → subtree_at t p ≡ Some s → MustHave a t p wanted
         → HasSkeletonType a K s wanted
     must {p} {s} b (argument q i {f} {ts} {type} e x named there) =
-        let d = applied x in
-        let function = same_function d.2 named in
-        let arguments = subst (λ (g : Fun). HaveSkeletonTypes a K ts (categories_of g)) function d.2.arguments in
-        let child = sym (ap (λ l. child_at l (suc i)) x.applies) ∙ sym (below (Some t) q x.subtree (suc i) x.stands)
+        let d = applied q x in
+        let u = standing (subtree_at t q) _ x in
+        let function = same_function d.1 named in
+        let arguments = subst (λ (g : Fun). HaveSkeletonTypes a K ts (categories_of g)) function d.1.arguments in
+        let child = sym (ap (λ l. child_at l (suc i)) u.2) ∙ sym (below (Some t) q u.0 (suc i) u.1)
         ∙ ap (subtree_of (Some t)) (sym e) ∙ b in
         of_argument i f.args ts type s arguments there child
 
     pub right : {p : List ℕ} {k : ℕ} {r : Refusal} → ¬ IsWrongAt a t p k r
-    right (unknown_fun x e) =
-        let d = applied x in
-        is_there a.funs d.2.function d.2.listed (ap (function_named a.funs) d.2.is_named ∙ e)
-    right (wrong_arity {f} {ts} x e n) =
-        let d = applied x in
-        let arguments = subst (λ (g : Fun). HaveSkeletonTypes a K ts (categories_of g)) (same_function d.2 e) d.2.arguments in
+    right {p} (unknown_fun x e) =
+        let d = applied p x in
+        is_there a.funs d.1.function d.1.listed (ap (function_named a.funs) d.1.is_named ∙ e)
+    right {p} (wrong_arity {f} {ts} x e n) =
+        let d = applied p x in
+        let arguments = subst (λ (g : Fun). HaveSkeletonTypes a K ts (categories_of g)) (same_function d.1 e) d.1.arguments in
         n (same_length f.args ts arguments)
-    right (wrong_category m (unsolved.HasCategory.application {name} {f} {ts} x e) n) =
-        let d = applies name ts x.applies (must x.stands m) in
+    right {p} (wrong_category m (unsolved.HasCategory.application {name} {ts} x e) n) =
+        let s = standing (subtree_at t p) _ x in
+        let d = applies name ts s.2 (must s.1 m) in
         n (d.result ∙ ap (λ (g : Fun). g.result.cat) (same_function d e))
-    right (wrong_category m (unsolved.HasCategory.integer e i) n) = n (integer_is i (must e m))
-    right (wrong_category m (unsolved.HasCategory.text e i) n) = n (text_is i (must e m))
-    right (wrong_category {wanted} {found} m (unsolved.HasCategory.hole {k} x y first o) n) =
-        n (single k wanted found (hole_is x.hole (must x.stands m)) (hole_is y.hole (must y.stands o)))
+    right {p} (wrong_category m (unsolved.HasCategory.integer e) n) =
+        let s = standing (subtree_at t p) _ e in n (integer_is s.2 (must s.1 m))
+    right {p} (wrong_category m (unsolved.HasCategory.text e) n) =
+        let s = standing (subtree_at t p) _ e in n (text_is s.2 (must s.1 m))
+    right {p} (wrong_category {wanted} {found} m (unsolved.HasCategory.hole {q} {k} x y first o) n) =
+        let s = standing (subtree_at t p) _ x in
+        let u = standing (subtree_at t q) _ y in
+        n (single k wanted found (hole_is s.2 (must s.1 m)) (hole_is u.2 (must u.1 o)))

@@ -1,6 +1,6 @@
 -- Worked examples of what `parse` and `complete` answer: in Dead `yes` is the one sentence.
 use Rattle.std.proofs.Common.{◌≡◌, ◌≢◌, refl, sym, ap, ◌∙◌, subst, ℕ, zero, suc, List, [], ◌∷◌, ◌++◌, true, false, arith, rules, inl, inr, ⊎_elim}
-use Rattle.std.specs.Prelude.{codes, bytes_eq, slice_index_or, Contains, AllPairs, Bool, Option, Some, None, length, slice_get}
+use Rattle.std.specs.Prelude.{codes, bytes_eq, slice_index_or, Contains, AllPairs, Bool, Option, Some, None, option_map, length, slice_get}
 use Rattle.gft_core.specs.declared.tree.Tree.{Tree, App, Hole, out-Tree, roll-Tree, roll-out-Tree}
 use Rattle.gft_core.specs.declared.tree.Tree.TheOpen as layer
 use Rattle.gft_core.specs.declared.tree.Tree.TheOpen.{Tree-F}
@@ -23,7 +23,7 @@ use Rattle.gft_model.specs.Sentences.{IsSentence, IsNext, Next, a_word, next_of}
 use Rattle.gft_model.specs.Solutions.{IsSolution}
 use Rattle.gft_model.specs.Trees as trees
 use Rattle.gft_model.specs.Typing as typing
-use Rattle.gft_model.specs.Unsolved.{IsUnsolved, IsSolvable, ComesFirst, AppliesAt, MustHave, argument, IsWrongAt, unknown_fun, wrong_arity, wrong_category, function_named, wrong}
+use Rattle.gft_model.specs.Unsolved.{IsUnsolved, IsSolvable, ComesFirst, layer_at, MustHave, argument, IsWrongAt, unknown_fun, wrong_arity, wrong_category, function_named, wrong}
 use Rattle.gft_model.proofs.Grammars.{dead, whole}
 use Rattle.gft_model.proofs.SentenceExamples.{language, h, h_gives, h_string, yes_is_next, only_h, only_yes, no_words, first_of}
 use Rattle.gft_model.proofs.SkeletonLaws.{skeleton}
@@ -166,7 +166,7 @@ unsolvable s =
 unknown : IsUnsolved dead (App (codes "nope") []) (placeless UnknownFun (codes "nope" ∷ []))
 unknown = record {
   unsolvable = unsolvable;
-  reason = wrong {p = []} {kind = 0} (unknown_fun (record { subtree = _; stands = refl; applies = outs-App _ _ }) refl)
+  reason = wrong {p = []} {kind = 0} (unknown_fun (ap Some (outs-App _ _)) refl)
       (λ q other s w. root_first q other);
 }
 
@@ -179,27 +179,25 @@ no_part : (i : ℕ) (q : List ℕ) → trees.subtree_at h (i ∷ q) ≡ None
 no_part i q = ap (λ (l : Tree-F Tree). trees.subtree_of (trees.child_at l i) q) (outs-App (codes "h") [])
 
 -- what stands in it is `h` at the root
-only_root : {p : List ℕ} {name : List ℕ} {ts : List Tree} → AppliesAt h p name ts → (name ≡ codes "h") × (ts ≡ [])
-only_root {p = []} {name} {ts} s =
-    let is : h ≡ s.subtree = let some = s.stands in cc in
-    let layers : ◌≡◌ {A = Tree-F Tree} (layer.App name ts) (layer.App (codes "h") []) =
-    sym s.applies ∙ ap out-Tree (sym is) ∙ outs-App (codes "h") [] in (cc, cc)
-only_root {p = i ∷ q} s = let none = no_part i q in let some = s.stands in cc
+only_root : (p : List ℕ) {name : List ℕ} {ts : List Tree} → layer_at h p ≡ Some (layer.App name ts)
+    → (name ≡ codes "h") × (ts ≡ [])
+only_root [] s = let is = outs-App (codes "h") [] in (cc, cc)
+only_root (i ∷ q) s = let none = ap (option_map out-Tree) (no_part i q) in cc
 
 abbrev arguments_of : Option Fun → List AType
 arguments_of None = []
 arguments_of (Some f) = f.args
 
-no_arguments : {p name : List ℕ} {f : Fun} {ts : List Tree} → AppliesAt h p name ts → function_named dead.funs name ≡ Some f
+no_arguments : (p : List ℕ) {name : List ℕ} {f : Fun} {ts : List Tree} → layer_at h p ≡ Some (layer.App name ts) → function_named dead.funs name ≡ Some f
     → f.args ≡ []
-no_arguments s named = sym (ap arguments_of named) ∙ ap (λ n. arguments_of (function_named dead.funs n)) (only_root s).0
+no_arguments p s named = sym (ap arguments_of named) ∙ ap (λ n. arguments_of (function_named dead.funs n)) (only_root p s).0
 
 no_demand : {p : List ℕ} {cat : ℕ} → ¬ MustHave dead h p cat
-no_demand (argument q i e s named there) = let none = sym (ap (λ ts. slice_get ts i) (no_arguments s named)) ∙ there in cc
+no_demand (argument q i e s named there) = let none = sym (ap (λ ts. slice_get ts i) (no_arguments q s named)) ∙ there in cc
 
 not_wrong : {p : List ℕ} {kind : ℕ} {r : Refusal} → ¬ IsWrongAt dead h p kind r
-not_wrong (unknown_fun s named) = let is = ap (function_named dead.funs) (sym (only_root s).0) ∙ named in cc
-not_wrong (wrong_arity s named n) = n (ap length (only_root s).1 ∙ sym (ap length (no_arguments s named)))
+not_wrong {p} (unknown_fun s named) = let is = ap (function_named dead.funs) (sym (only_root p s).0) ∙ named in cc
+not_wrong {p} (wrong_arity s named n) = n (ap length (only_root p s).1 ∙ sym (ap length (no_arguments p s named)))
 not_wrong (wrong_category m c n) = no_demand m
 
 -- so `h` is solved, and not refused

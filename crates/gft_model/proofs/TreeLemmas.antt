@@ -1,6 +1,7 @@
 -- Trees, layer by layer.
-use Rattle.std.specs.Prelude.{◌≡◌, ℕ, List, [], ◌∷◌, map}
-use Rattle.std.proofs.Common.{sym, ap, ◌∙◌}
+use Rattle.std.specs.Prelude.{◌≡◌, ℕ, List, [], ◌∷◌, map, Option, Some, None}
+use Rattle.std.specs.Option.{option_map}
+use Rattle.std.proofs.Common.{refl, sym, ap, ◌∙◌}
 use Rattle.gft_core.specs.declared.tree.Tree.{Tree, App, Int, Str, Hole, out-Tree}
 use Rattle.gft_core.specs.declared.tree.Tree.TheOpen.{Tree-F}
 use Rattle.gft_core.specs.declared.tree.Tree.TheOpen as layer
@@ -53,3 +54,9 @@ pub no_hole : (f : List ℕ) (ts : List Tree) (k : ℕ) → App f ts ≡ Hole k 
 no_hole f ts k e =
     let layers : ◌≡◌ {A = Tree-F Tree} (layer.App f ts) (layer.Hole k) = sym (outs-App f ts)
     ∙ ap out-Tree e ∙ outs-Hole k in cc
+
+-- what has a layer is there
+pub standing : (o : Option Tree) (l : Tree-F Tree) → option_map out-Tree o ≡ Some l
+    → (s : Tree) × (o ≡ Some s) × (out-Tree s ≡ l)
+standing None l e = cc
+standing (Some s) l e = (s, refl, cc)

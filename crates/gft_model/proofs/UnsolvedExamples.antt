@@ -1,10 +1,10 @@
 -- Worked example of a tree without a solution: `Do fan fan nope` of Home.
 use Rattle.std.proofs.Common.{◌≡◌, refl, sym, ap, ◌∙◌, subst, ℕ, zero, suc, List, [], ◌∷◌, true, false, arith, inl, inr}
-use Rattle.std.specs.Prelude.{codes, bytes_eq, length, Contains, Some, None}
+use Rattle.std.specs.Prelude.{codes, bytes_eq, length, Contains, Some, None, option_map}
 use Rattle.std.specs.Cmp.Lexicographic.{slice_cmp}
 use Rattle.std.specs.Ordering.{nat_cmp, ordering_then}
 use Rattle.gft_tree.proofs.OrderLemmas.{lt_less}
-use Rattle.gft_core.specs.declared.tree.Tree.{Tree, App}
+use Rattle.gft_core.specs.declared.tree.Tree.{out-Tree, Tree, App}
 use Rattle.gft_core.specs.declared.tree.Tree.TheOpen.{Tree-F}
 use Rattle.gft_core.specs.declared.tree.Tree.TheVariants.{outs-App}
 use Rattle.gft_pmcfg.specs.declared.signature.AType.{AType}
@@ -14,7 +14,7 @@ use Rattle.gft_rules.specs.declared.rule.Rule.TheVariants.{WrongCategory}
 use Rattle.gft_model.specs.Refusals.{placeless}
 use Rattle.gft_model.specs.Trees.{subtree_at, subtree_of, child_at, filled}
 use Rattle.gft_model.specs.Typing.{HoleTypes, HasType, HaveTypes, type_at}
-use Rattle.gft_model.specs.Unsolved.{AppliesAt, MustHave, argument, HasCategory, application, integer, text, hole, IsWrongAt, unknown_fun, wrong_arity, wrong_category, ComesFirst, function_named, wrong, IsSolvable, IsUnsolved}
+use Rattle.gft_model.specs.Unsolved.{layer_at, MustHave, argument, HasCategory, application, integer, text, hole, IsWrongAt, unknown_fun, wrong_arity, wrong_category, ComesFirst, function_named, wrong, IsSolvable, IsUnsolved}
 use Rattle.gft_model.proofs.InfoExamples.{home, indexed, do_fun, fan_fun}
 use Rattle.gft_model.proofs.TreeLemmas.{filled-App}
 use Rattle.gft_model.proofs.TypingLemmas.{applies, first_type, other_types}
@@ -36,33 +36,33 @@ part i q = ap (λ (l : Tree-F Tree). subtree_of (child_at l i) q) (outs-App (cod
 no_part : (j : ℕ) (r : List ℕ) → subtree_of (Some fan) (j ∷ r) ≡ None
 no_part j r = ap (λ (l : Tree-F Tree). subtree_of (child_at l j) r) (outs-App (codes "fan") [])
 
-at_root : AppliesAt tree [] (codes "Do") arguments
-at_root = record { subtree = tree; stands = refl; applies = outs-App _ _ }
+at_root : layer_at tree [] ≡ Some (Tree-F.App (codes "Do") arguments)
+at_root = ap Some (outs-App _ _)
 
-at_one : AppliesAt tree (1 ∷ []) (codes "fan") []
-at_one = record { subtree = fan; stands = part 1 []; applies = outs-App _ _ }
+at_one : layer_at tree (1 ∷ []) ≡ Some (Tree-F.App (codes "fan") [])
+at_one = ap (option_map out-Tree) (part 1 []) ∙ ap Some (outs-App _ _)
 
-at_two : AppliesAt tree (2 ∷ []) (codes "fan") []
-at_two = record { subtree = fan; stands = part 2 []; applies = outs-App _ _ }
+at_two : layer_at tree (2 ∷ []) ≡ Some (Tree-F.App (codes "fan") [])
+at_two = ap (option_map out-Tree) (part 2 []) ∙ ap Some (outs-App _ _)
 
 -- nothing is wrong where nothing stands
 nothing_wrong : {p : List ℕ} {k : ℕ} {r : Refusal} → subtree_at tree p ≡ None → ¬ IsWrongAt home tree p k r
-nothing_wrong e (unknown_fun x f) = let s = x.stands in cc
-nothing_wrong e (wrong_arity x f n) = let s = x.stands in cc
-nothing_wrong e (wrong_category m (application x f) n) = let s = x.stands in cc
-nothing_wrong e (wrong_category m (integer s i) n) = cc
-nothing_wrong e (wrong_category m (text s i) n) = cc
-nothing_wrong e (wrong_category m (hole x y f h) n) = let s = x.stands in cc
+nothing_wrong e (unknown_fun x f) = let s = sym (ap (option_map out-Tree) e) ∙ x in cc
+nothing_wrong e (wrong_arity x f n) = let s = sym (ap (option_map out-Tree) e) ∙ x in cc
+nothing_wrong e (wrong_category m (application x f) n) = let s = sym (ap (option_map out-Tree) e) ∙ x in cc
+nothing_wrong e (wrong_category m (integer x) n) = let s = sym (ap (option_map out-Tree) e) ∙ x in cc
+nothing_wrong e (wrong_category m (text x) n) = let s = sym (ap (option_map out-Tree) e) ∙ x in cc
+nothing_wrong e (wrong_category m (hole x y f h) n) = let s = sym (ap (option_map out-Tree) e) ∙ x in cc
 
 -- a function that is there, with its arguments
-known : {p name : List ℕ} {ts : List Tree} {f : Fun} {k : ℕ} {r : Refusal} → AppliesAt tree p name ts
+known : (p : List ℕ) {name : List ℕ} {ts : List Tree} {f : Fun} {k : ℕ} {r : Refusal} → layer_at tree p ≡ Some (Tree-F.App name ts)
     → function_named home.funs name ≡ Some f → length ts ≡ length f.args → IsWrongAt home tree p k r → k ≡ 2
-known x e l (unknown_fun y f) = let h = ap (function_named home.funs) (applies_once home tree x y).0 in cc
-known {f = f} x e l (wrong_arity {f = g} y d n) =
-    let h = applies_once home tree x y in
+known p x e l (unknown_fun y f) = let h = ap (function_named home.funs) (applies_once home tree p x y).0 in cc
+known p {f = f} x e l (wrong_arity {f = g} y d n) =
+    let h = applies_once home tree p x y in
     let functions : f ≡ g = let names = ap (function_named home.funs) h.0 in cc in
     absurd (n (sym (ap length h.1) ∙ l ∙ ap (λ (m : Fun). length m.args) functions))
-known x e l (wrong_category m h n) = refl
+known p x e l (wrong_category m h n) = refl
 
 must_one : MustHave home tree (1 ∷ []) 5
 must_one = argument [] 0 refl at_root refl refl
@@ -79,13 +79,13 @@ has_two = application at_two refl
 -- the root and the first argument are right
 root_right : {k : ℕ} {r : Refusal} → ¬ IsWrongAt home tree [] k r
 root_right (wrong_category (argument q i e x f g) h n) = not_nil q (suc i) e
-root_right (unknown_fun x e) = absurd (omega (arith, known at_root refl refl (unknown_fun x e)))
-root_right (wrong_arity x e n) = absurd (omega (arith, known at_root refl refl (wrong_arity x e n)))
+root_right (unknown_fun x e) = absurd (omega (arith, known [] at_root refl refl (unknown_fun x e)))
+root_right (wrong_arity x e n) = absurd (omega (arith, known [] at_root refl refl (wrong_arity x e n)))
 
 one_right : {k : ℕ} {r : Refusal} → ¬ IsWrongAt home tree (1 ∷ []) k r
 one_right (wrong_category m h n) = n (must_once home tree m must_one ∙ has_once home tree has_one h)
-one_right (unknown_fun x e) = absurd (omega (arith, known at_one refl refl (unknown_fun x e)))
-one_right (wrong_arity x e n) = absurd (omega (arith, known at_one refl refl (wrong_arity x e n)))
+one_right (unknown_fun x e) = absurd (omega (arith, known (1 ∷ []) at_one refl refl (unknown_fun x e)))
+one_right (wrong_arity x e n) = absurd (omega (arith, known (1 ∷ []) at_one refl refl (wrong_arity x e n)))
 
 -- so the second argument comes first
 first : (q : List ℕ) (k : ℕ) (r : Refusal) → IsWrongAt home tree q k r → ComesFirst (2 ∷ []) 2 q k
@@ -93,7 +93,7 @@ first [] k r w = absurd (root_right w)
 first (zero ∷ q) k r w = absurd (nothing_wrong (part 0 q) w)
 first (suc zero ∷ []) k r w = absurd (one_right w)
 first (suc zero ∷ j ∷ q) k r w = absurd (nothing_wrong (part 1 (j ∷ q) ∙ no_part j q) w)
-first (suc (suc zero) ∷ []) k r w = inr (refl, omega (arith, known at_two refl refl w))
+first (suc (suc zero) ∷ []) k r w = inr (refl, omega (arith, known (2 ∷ []) at_two refl refl w))
 first (suc (suc zero) ∷ j ∷ q) k r w = inl refl
 first (suc (suc (suc i)) ∷ q) k r w =
     inl (ap (λ o. ordering_then o (slice_cmp nat_cmp [] q)) (lt_less 2 (suc (suc (suc i))) (omega arith)))

@@ -1,11 +1,14 @@
 -- A tree without a solution has one refusal.
-use Rattle.std.proofs.Common.{◌≡◌, refl, sym, ap, ◌∙◌, subst, ℕ, suc, List, [], ◌∷◌, ◌++◌, arith, ⊎_elim}
+use Rattle.std.proofs.Common.{◌≡◌, ◌≢◌, refl, sym, ap, ◌∙◌, subst, ℕ, suc, List, [], ◌∷◌, ◌++◌, arith, ⊎_elim}
 use Rattle.std.proofs.Math.Nat.{eq-or-lt_of_le}
 use Rattle.std.proofs.lemmas.Bool.{cases_lt}
 use Rattle.std.specs.Prelude.{slice_get, Option, Some, None}
-use Rattle.std.specs.declared.cmp.Ordering.TheVariants.{Less}
+use Rattle.std.specs.declared.cmp.Ordering.{Ordering}
+use Rattle.std.specs.declared.cmp.Ordering.TheVariants.{Less, Equal, Greater}
 use Rattle.std.specs.Cmp.Lexicographic.{slice_cmp, nat_list_cmp_total}
-use Rattle.std.specs.Ordering.{nat_cmp}
+use Rattle.std.specs.Ordering.{nat_cmp, is_eq, ordering_reverse}
+use Rattle.std.proofs.lemmas.Slice.Eq.{bytes_eq-Decides}
+use Rattle.std.proofs.lemmas.Map.Text.{is_eq-slice_cmp}
 use Rattle.gft_core.specs.declared.tree.Tree.{Tree, out-Tree}
 use Rattle.gft_core.specs.declared.tree.Tree.TheOpen as layer
 use Rattle.gft_core.specs.declared.tree.Tree.TheOpen.{Tree-F}
@@ -17,7 +20,7 @@ use Rattle.gft_rules.specs.declared.rule.Rule.TheVariants.{UnknownFun, WrongArit
 use Rattle.gft_model.specs.Refusals.{placeless}
 use Rattle.gft_model.specs.States.{category_name}
 use Rattle.gft_model.specs.Trees.{subtree_at, text_of}
-use Rattle.gft_model.specs.Unsolved.{IsNotAfter, AppliesAt, HoleAt, function_named, MustHave, argument, HasCategory, application, integer, text, hole, IsWrongAt, unknown_fun, wrong_arity, wrong_category, ComesFirst, IsBefore, within, left, IsReason, wrong, ill_typed}
+use Rattle.gft_model.specs.Unsolved.{layer_at, function_named, MustHave, argument, HasCategory, application, integer, text, hole, IsWrongAt, unknown_fun, wrong_arity, wrong_category, ComesFirst, IsBefore, within, left, IsReason, wrong, ill_typed}
 
 -- POSITIONS
 
@@ -32,9 +35,13 @@ last_once [] (k ∷ q) i j e = absurd (not_nil q j cc)
 last_once (k ∷ p) [] i j e = absurd (not_nil p i cc)
 last_once (k ∷ p) (l ∷ q) i j e = let t = last_once p q i j cc in let h : k ≡ l = cc in (cc, t.1)
 
-not_after_once : (p q : List ℕ) → IsNotAfter p q → IsNotAfter q p → p ≡ q
-not_after_once p q x y = ⊎_elim {C = p ≡ q} (λ e. e)
-    (λ l. ⊎_elim {C = p ≡ q} (λ e. sym e) (λ m. let h = nat_list_cmp_total.antisymm p q in cc) y) x
+-- of two positions neither of which is before the other there is one
+not_after_once : (p q : List ℕ) → slice_cmp nat_cmp p q ≢ Less → slice_cmp nat_cmp q p ≢ Less → p ≡ q
+not_after_once p q x y = by_order (slice_cmp nat_cmp p q) refl where
+  by_order : (o : Ordering) → slice_cmp nat_cmp p q ≡ o → p ≡ q
+  by_order Less e = absurd (x e)
+  by_order Equal e = (bytes_eq-Decides p q).0 (sym (is_eq-slice_cmp p q) ∙ ap is_eq e)
+  by_order Greater e = absurd (y (nat_list_cmp_total.antisymm q p ∙ ap ordering_reverse e))
 
 not_before_itself : (p q : List ℕ) → p ≡ q → slice_cmp nat_cmp p q ≡ Less → ⊥
 not_before_itself p q e l =
@@ -75,56 +82,49 @@ abbrev category_in : Option AType → ℕ
 category_in None = 0
 category_in (Some type) = type.cat
 
--- what stands somewhere has one form
-layer_once : {o : Option Tree} {s u : Tree} {x y : Tree-F Tree} → o ≡ Some s → out-Tree s ≡ x → o ≡ Some u → out-Tree u ≡ y
-    → x ≡ y
-layer_once {s = s} {u = u} b e c f = let equal : s ≡ u = cc in sym e ∙ ap out-Tree equal ∙ f
-
 module _ (a : Abstract) (t : Tree) where
-  pub applies_once : {p f g : List ℕ} {ts us : List Tree} → AppliesAt t p f ts → AppliesAt t p g us → (f ≡ g) × (ts ≡ us)
-  applies_once {f = f} {g = g} {ts = ts} {us = us} x y =
-      let layers : ◌≡◌ {A = Tree-F Tree} (layer.App f ts) (layer.App g us) =
-      layer_once x.stands x.applies y.stands y.applies in (cc, cc)
+  pub applies_once : (p : List ℕ) {f g : List ℕ} {ts us : List Tree} → layer_at t p ≡ Some (layer.App f ts)
+      → layer_at t p ≡ Some (layer.App g us) → (f ≡ g) × (ts ≡ us)
+  applies_once p x y = (cc, cc)
 
-  function_once : {p f g : List ℕ} {ts us : List Tree} {h k : Fun} → AppliesAt t p f ts → AppliesAt t p g us
-      → function_named a.funs f ≡ Some h → function_named a.funs g ≡ Some k → h ≡ k
-  function_once x y e d = let same = (applies_once x y).0 in let b = ap (function_named a.funs) same in cc
+  function_once : (p : List ℕ) {f g : List ℕ} {ts us : List Tree} {h k : Fun} → layer_at t p ≡ Some (layer.App f ts)
+      → layer_at t p ≡ Some (layer.App g us) → function_named a.funs f ≡ Some h → function_named a.funs g ≡ Some k → h ≡ k
+  function_once p x y e d = let same = (applies_once p x y).0 in let b = ap (function_named a.funs) same in cc
 
-  hole_once : {p : List ℕ} {j k : ℕ} → HoleAt t p j → HoleAt t p k → j ≡ k
-  hole_once {j = j} {k = k} x y =
-      let layers : ◌≡◌ {A = Tree-F Tree} (layer.Hole j) (layer.Hole k) = layer_once x.stands x.hole y.stands y.hole in cc
+  hole_once : (p : List ℕ) {j k : ℕ} → layer_at t p ≡ Some (layer.Hole j) → layer_at t p ≡ Some (layer.Hole k) → j ≡ k
+  hole_once p x y = cc
 
   pub must_once : {p : List ℕ} {c d : ℕ} → MustHave a t p c → MustHave a t p d → c ≡ d
   must_once (argument q i {name} {f} {ts} {type} e s named there) (argument r j {type = other} g z called here) =
       let places = last_once q r (suc i) (suc j) (sym e ∙ g) in
-      let functions = function_once (subst (λ x. AppliesAt t x name ts) places.0 s) z named called in
+      let functions = function_once r (subst (λ x. layer_at t x ≡ Some (layer.App name ts)) places.0 s) z named called in
       let numbers : i ≡ j = omega (arith, places.1) in
       ap category_in (sym there ∙ ap (λ k. slice_get k.args i) functions ∙ ap (slice_get _) numbers ∙ here)
 
   pub has_once : {p : List ℕ} {c d : ℕ} → HasCategory a t p c → HasCategory a t p d → c ≡ d
-  has_once (application s named) (application z called) = ap (λ f. f.result.cat) (function_once s z named called)
-  has_once (application s named) (integer e i) = let h = layer_once s.stands s.applies e i in cc
-  has_once (application s named) (text e i) = let h = layer_once s.stands s.applies e i in cc
-  has_once (application s named) (hole x y f m) = let h = layer_once s.stands s.applies x.stands x.hole in cc
-  has_once (integer e i) (application s named) = let h = layer_once s.stands s.applies e i in cc
-  has_once (integer e i) (integer f j) = refl
-  has_once (integer e i) (text f j) = let h = layer_once e i f j in cc
-  has_once (integer e i) (hole x y f m) = let h = layer_once e i x.stands x.hole in cc
-  has_once (text e i) (application s named) = let h = layer_once s.stands s.applies e i in cc
-  has_once (text e i) (integer f j) = let h = layer_once e i f j in cc
-  has_once (text e i) (text f j) = refl
-  has_once (text e i) (hole x y f m) = let h = layer_once e i x.stands x.hole in cc
-  has_once (hole x y f m) (application s named) = let h = layer_once s.stands s.applies x.stands x.hole in cc
-  has_once (hole x y f m) (integer e i) = let h = layer_once e i x.stands x.hole in cc
-  has_once (hole x y f m) (text e i) = let h = layer_once e i x.stands x.hole in cc
-  has_once {c = c} (hole {q} x y f m) (hole {q = r} z w g n) =
-      let k = hole_once x z in
-      let places : q ≡ r = not_after_once q r (f r (subst (HoleAt t r) (sym k) w)) (g q (subst (HoleAt t q) k y)) in
+  has_once {p} (application s named) (application z called) = ap (λ f. f.result.cat) (function_once p s z named called)
+  has_once (application s named) (integer e) = cc
+  has_once (application s named) (text e) = cc
+  has_once (application s named) (hole x y f m) = cc
+  has_once (integer e) (application s named) = cc
+  has_once (integer e) (integer f) = refl
+  has_once (integer e) (text f) = cc
+  has_once (integer e) (hole x y f m) = cc
+  has_once (text e) (application s named) = cc
+  has_once (text e) (integer f) = cc
+  has_once (text e) (text f) = refl
+  has_once (text e) (hole x y f m) = cc
+  has_once (hole x y f m) (application s named) = cc
+  has_once (hole x y f m) (integer e) = cc
+  has_once (hole x y f m) (text e) = cc
+  has_once {p} {c = c} (hole {q} x y f m) (hole {q = r} z w g n) =
+      let k = hole_once p x z in
+      let places : q ≡ r = not_after_once q r (g q (y ∙ ap (λ i. Some (layer.Hole i)) k)) (f r (w ∙ ap (λ i. Some (layer.Hole i)) (sym k))) in
       must_once (subst (λ v. MustHave a t v c) places m) n
 
   wrong_once : {p : List ℕ} {k : ℕ} {r s : Refusal} → IsWrongAt a t p k r → IsWrongAt a t p k s → r ≡ s
-  wrong_once (unknown_fun x e) (unknown_fun y f) = ap (λ n. placeless UnknownFun (n ∷ [])) (applies_once x y).0
-  wrong_once (wrong_arity x e n) (wrong_arity y f m) = ap (λ n. placeless WrongArity (n ∷ [])) (applies_once x y).0
+  wrong_once {p} (unknown_fun x e) (unknown_fun y f) = ap (λ n. placeless UnknownFun (n ∷ [])) (applies_once p x y).0
+  wrong_once {p} (wrong_arity x e n) (wrong_arity y f m) = ap (λ n. placeless WrongArity (n ∷ [])) (applies_once p x y).0
   wrong_once (wrong_category {wanted} {found} m h n) (wrong_category {wanted = c} {found = d} o i l) =
       ap (λ k. placeless WrongCategory (category_name a k ∷ category_name a found ∷ [])) (must_once m o)
       ∙ ap (λ k. placeless WrongCategory (category_name a c ∷ category_name a k ∷ [])) (has_once h i)

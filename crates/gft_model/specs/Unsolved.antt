@@ -1,9 +1,12 @@
 -- Why a tree of a command has no solution: the first rule that it breaks.
-use Rattle.std.specs.Prelude.{◌≡◌, ◌≢◌, ◌⊎◌, ◌<◌, ◌≤◌, ℕ, suc, List, [], ◌∷◌, ◌++◌, length, bytes_eq, if◌then◌else◌, Option, Some, None, slice_get}
+use Rattle.std.specs.Prelude.{◌≡◌, ◌≢◌, ◌⊎◌, ◌<◌, ◌≤◌, ℕ, suc, List, [], ◌∷◌, ◌++◌, length, bytes_eq, Option, Some, None, slice_get}
+use Rattle.std.specs.List.{find}
+use Rattle.std.specs.Option.{option_map}
 use Rattle.std.specs.Cmp.Lexicographic.{slice_cmp}
 use Rattle.std.specs.Ordering.{nat_cmp}
 use Rattle.std.specs.declared.cmp.Ordering.TheVariants.{Less}
-use Rattle.gft_core.specs.declared.tree.Tree.{Tree}
+use Rattle.gft_core.specs.declared.tree.Tree.{Tree, out-Tree}
+use Rattle.gft_core.specs.declared.tree.Tree.TheOpen.{Tree-F, App, Int, Str, Hole}
 use Rattle.gft_pmcfg.specs.declared.signature.AType.{AType}
 use Rattle.gft_pmcfg.specs.declared.signature.Abstract.{Abstract}
 use Rattle.gft_pmcfg.specs.declared.signature.Fun.{Fun}
@@ -12,51 +15,39 @@ use Rattle.gft_rules.specs.declared.rule.Rule.TheVariants.{UnknownFun, WrongArit
 use Rattle.gft_model.specs.Refusals.{placeless}
 use Rattle.gft_model.specs.Solutions.{IsSolution}
 use Rattle.gft_model.specs.States.{category_name}
-use Rattle.gft_model.specs.Trees.{IsApplication, IsInteger, IsString, IsHole, subtree_at, text_of}
+use Rattle.gft_model.specs.Trees.{subtree_at, text_of}
 
 -- Positions, as lists of argument numbers, are in pre-order by their numbers: a tree before its arguments.
 
--- one position is before another, or the same
-abbrev pub IsNotAfter : List ℕ → List ℕ → Type 0
-IsNotAfter p q = (p ≡ q) ⊎ (slice_cmp nat_cmp p q ≡ Less)
-
--- the subtree at the position applies the function to arguments
-pub record AppliesAt (t : Tree) (p : List ℕ) (f : List ℕ) (ts : List Tree) : Type 0 where
-  pub subtree : Tree
-  pub stands : subtree_at t p ≡ Some subtree
-  pub applies : IsApplication subtree f ts
-
--- the hole stands at the position
-pub record HoleAt (t : Tree) (p : List ℕ) (k : ℕ) : Type 0 where
-  pub subtree : Tree
-  pub stands : subtree_at t p ≡ Some subtree
-  pub hole : IsHole subtree k
+-- the layer of the subtree at a position
+abbrev pub layer_at : Tree → List ℕ → Option (Tree-F Tree)
+layer_at t p = option_map out-Tree (subtree_at t p)
 
 -- the function of a name
 abbrev pub function_named : List Fun → List ℕ → Option Fun
-function_named [] name = None
-function_named (f ∷ fs) name = if bytes_eq f.name name then Some f else function_named fs name
+function_named fs name = find (λ f. bytes_eq f.name name) fs
 
 -- the category that an argument must have, by its function
 pub data MustHave (a : Abstract) (t : Tree) (p : List ℕ) : ℕ → Type 0 where
-  argument : (q : List ℕ) (i : ℕ) {name : _} {f : Fun} {ts : _} {type : AType} → p ≡ q ++ suc i ∷ [] → AppliesAt t q name ts →
-      function_named a.funs name ≡ Some f → slice_get f.args i ≡ Some type → MustHave a t p type.cat
+  argument : (q : List ℕ) (i : ℕ) {name : _} {f : Fun} {ts : _} {type : AType} → p ≡ q ++ suc i ∷ [] →
+      layer_at t q ≡ Some (App name ts) → function_named a.funs name ≡ Some f → slice_get f.args i ≡ Some type →
+      MustHave a t p type.cat
 
 -- the category that the subtree at a position has; a hole has the one that it must have where it first occurs
 pub data HasCategory (a : Abstract) (t : Tree) (p : List ℕ) : ℕ → Type 0 where
-  application : {name : _} {f : Fun} {ts : _} → AppliesAt t p name ts → function_named a.funs name ≡ Some f →
+  application : {name ts : _} {f : Fun} → layer_at t p ≡ Some (App name ts) → function_named a.funs name ≡ Some f →
       HasCategory a t p f.result.cat
-  integer : {s n : _} → subtree_at t p ≡ Some s → IsInteger s n → HasCategory a t p 0
-  text : {s w : _} → subtree_at t p ≡ Some s → IsString s w → HasCategory a t p 1
-  hole : {q k cat : _} → HoleAt t p k → HoleAt t q k → ((r : List ℕ) → HoleAt t r k → IsNotAfter q r) → MustHave a t q cat →
-      HasCategory a t p cat
+  integer : {n : _} → layer_at t p ≡ Some (Int n) → HasCategory a t p 0
+  text : {w : _} → layer_at t p ≡ Some (Str w) → HasCategory a t p 1
+  hole : {q k cat : _} → layer_at t p ≡ Some (Hole k) → layer_at t q ≡ Some (Hole k) →
+      ((r : List ℕ) → layer_at t r ≡ Some (Hole k) → slice_cmp nat_cmp r q ≢ Less) → MustHave a t q cat → HasCategory a t p cat
 
 -- what is wrong at a position, in the order of kinds: a function that is not there, one with another number of
 -- arguments, an argument of another category
 pub data IsWrongAt (a : Abstract) (t : Tree) (p : List ℕ) : ℕ → Refusal → Type 0 where
-  unknown_fun : {name ts : _} → AppliesAt t p name ts → function_named a.funs name ≡ None →
+  unknown_fun : {name ts : _} → layer_at t p ≡ Some (App name ts) → function_named a.funs name ≡ None →
       IsWrongAt a t p 0 (placeless UnknownFun (name ∷ []))
-  wrong_arity : {name : _} {f : Fun} {ts : _} → AppliesAt t p name ts → function_named a.funs name ≡ Some f →
+  wrong_arity : {name : _} {f : Fun} {ts : _} → layer_at t p ≡ Some (App name ts) → function_named a.funs name ≡ Some f →
       length ts ≢ length f.args → IsWrongAt a t p 1 (placeless WrongArity (name ∷ []))
   wrong_category : {wanted found : _} → MustHave a t p wanted → HasCategory a t p found → wanted ≢ found →
       IsWrongAt a t p 2 (placeless WrongCategory (category_name a wanted ∷ category_name a found ∷ []))
