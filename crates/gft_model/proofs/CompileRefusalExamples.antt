@@ -13,7 +13,7 @@ use Rattle.gft_syntax.specs.declared.term.Term.TheOpen as T
 use Rattle.gft_syntax.specs.declared.term.Term.TheFolds.{fold-roll-Term}
 use Rattle.gft_syntax.specs.declared.value.Value.TheViews.{out-roll-Value}
 use Rattle.gft_model.specs.CompileFaults.{BreaksCompiling, is_stuck, of_function, first_stuck, turn_of}
-use Rattle.gft_model.specs.Outcomes.{Stuck, glue_on_argument}
+use Rattle.gft_model.specs.Outcomes.{Stuck}
 use Rattle.gft_model.specs.Productions.{outcomes_by_case}
 use Rattle.gft_model.specs.Refusals.{refusal}
 use Rattle.gft_model.proofs.Computing.{results-roll, numbered_value-roll, case_values-roll}
@@ -46,7 +46,7 @@ glue = record {
 }
 
 first_of_plural : first_stuck (flat_map (λ os. os) (map (λ c. c.1) (outcomes_by_case glue (codes "GlueEng") (codes "Pl"))))
-    ≡ Some (record { rule = glue_on_argument; place = here })
+    ≡ Some (record { rule = R.GlueOnArgument; place = here })
 first_of_plural = simp (fold-roll-Term, case_values-roll, results-roll, out-roll-Value, numbered_value-roll)
 
 pub glue_on_an_argument : BreaksCompiling glue (codes "GlueEng") (turn_of K.Lin (codes "Pl") ++ 1 ∷ [])

@@ -19,7 +19,7 @@ use Rattle.gft_syntax.specs.declared.term.Term.{Term}
 use Rattle.gft_syntax.specs.declared.term.Term.TheOpen as F
 use Rattle.gft_syntax.specs.Parts.{is_value}
 use Rattle.gft_model.specs.ConcreteTypes.{record_in, table_in, IsSubtype, equal, fewer_labels, tables, numbers, functions}
-use Rattle.gft_model.specs.ConcreteTyping.{is_type_form, is_table_expression, passes, Spine, applied_to, at_head, Fits, same, cut, sort, IsType, IsHead, Takes, takes_none, takes, Suits, Chosen, parameter_of, AreLabels, no_label, label, text_type, type_of_types, type_of_parameters, numbers_to, labels, table_over, function_from, pair_of, parameters_named, oper_named, definition_named, with_names, with_lets, Finds, Checks, ChecksLambda, body, binds, ChecksTable, cell, over, ChecksArguments, no_argument_left, next_argument, FindsAll, none_found, next_found, MembersFind, first_member, MembersCheck, no_member, member, BranchesFind, first_branch, BranchesCheck, no_branch, branch, FieldsHave, no_field, value_given, value_found, typed_given, typed_alone, Defines, no_local, local, typed_local, variable, constructor_name, typed_oper, untyped_oper, alternative_alone, parameter_name, literal, append, glue, number, predef, projection, application, overloaded, selection, branch_over, branch_of, item_of, case_found, table_found, list_found, record_found, extension, typed, let_found, variants_found, lambda, table_lambda, branches, branches_over, listed, record_given, let_given, case_given, variants_given, empty_type, parameter_given, found, type_form}
+use Rattle.gft_model.specs.ConcreteTyping.{is_type_form, is_table_expression, passes, Spine, applied_to, at_head, Fits, same, cut, sort, IsType, IsData, an_overload, Stands, Takes, takes_none, takes, Suits, suits_by, Chosen, parameter_of, AreLabels, no_label, label, text_type, type_of_types, type_of_parameters, numbers_to, labels, table_over, function_from, pair_of, parameters_named, oper_named, definition_named, with_names, with_lets, Finds, Checks, ChecksLambda, body, binds, ChecksTable, cell, over, ChecksArguments, no_argument_left, next_argument, FindsAll, none_found, next_found, MembersFind, first_member, MembersCheck, no_member, member, BranchesFind, first_branch, BranchesCheck, no_branch, branch, FieldsHave, no_field, value_given, value_found, typed_given, typed_alone, Defines, no_local, local, typed_local, variable, constructor_name, typed_oper, untyped_oper, alternative_alone, parameter_name, literal, append, glue, number, predef, projection, application, overloaded, selection, branch_over, branch_of, item_of, case_found, table_found, list_found, record_found, extension, typed, let_found, variants_found, lambda, table_lambda, branches, branches_over, listed, record_given, let_given, case_given, variants_given, empty_type, parameter_given, found, type_form}
 use Rattle.gft_model.specs.Items.{Item}
 use Rattle.gft_model.specs.PatternTyping.{Scope}
 use Rattle.gft_model.specs.TypeForms.{form, record_type}
@@ -194,10 +194,6 @@ module _ (items : List Item) where
   no-mix (label a b c) (typed_given x y z w v) e = cc
   no-mix (label a b c) (typed_alone x y z w v) e = cc
 
-  no_ints : {e d f a : Term} {es : List Term} {T : CType} → Spine e [] f (a ∷ es) → IsHead items f → IsType items d T → e ≡ d → ⊥
-  no_ints s h t e =
-      let x = spine_is_app s in let i = ints_head t (ap form (sym e) ∙ x.3) in h.not_ints i.0 (spine_ints s x.3 i.1)
-
   no_ints_var : {e d f a : Term} {es : List Term} {T : CType} {w : Whole} {p : Place} → Spine e [] f (a ∷ es) → form f ≡ F.Var (WholeName w) p → IsType items d T → e ≡ d → ⊥
   no_ints_var s h t e =
       let x = spine_is_app s in let i = ints_head t (ap form (sym e) ∙ x.3) in let j = spine_ints s x.3 i.1 in cc
@@ -220,12 +216,11 @@ module _ (items : List Item) where
   suits-along {w = w} {v = v} {As = As} {Bs = Bs} {us = us} {vs = vs} {j = j} {S = S} {z = z} e f g s =
       subst (λ (x : Whole). Suits items x As us j S z) (sym e) (subst (λ (x : List CType). Suits items v x us j S z) (sym f) (subst (λ (x : List LinTerm). Suits items v Bs x j S z) (sym g) s))
 
+  suits-once : {w v : Whole} {As Bs : List CType} {us vs : List LinTerm} {k j : ℕ} {R S : CType} {u z : LinTerm} → Suits items w As us k R u → Suits items v Bs vs j S z → k ≡ j → As ≡ Bs → us ≡ vs → (R ≡ S) × (u ≡ z)
+  suits-once (suits_by a0 a1 a2) (suits_by b0 b1 b2) l f g = let i = type-once items a1 b1 (cc) in takes-once a2 b2 i (cc) f g
+
   chosen-once : {w v : Whole} {As Bs : List CType} {us vs : List LinTerm} {k j : ℕ} {R S : CType} {u z : LinTerm} → Chosen items w As us k R u → Chosen items v Bs vs j S z → w ≡ v → As ≡ Bs → us ≡ vs → (R ≡ S) × (u ≡ z)
-  chosen-once {j = j} {S = S} {z = z} c d e f g =
-      let l = c.alone j S z (suits-along e f g d.suits) in
-      let a = c.suits.stands in let b = d.suits.stands in
-      let i = type-once items c.suits.is_type d.suits.is_type (cc) in
-      takes-once c.suits.taken d.suits.taken i (cc) f g
+  chosen-once {j = j} {S = S} {z = z} c d e f g = suits-once c.suits d.suits (sym (c.alone j S z (suits-along e f g d.suits))) f g
 
   abbrev form_of : {Γ : Scope} {e : Term} {T : CType} {t : LinTerm} → Finds items Γ e T t → F.Term-F Term
   form_of (variable {x = x} {p = p} a0 a1) = F.Var (Written x) p
@@ -239,8 +234,8 @@ module _ (items : List Item) where
   form_of (glue {a = a} {b = b} {p = p} a0 a1 a2) = F.Glue a b p
   form_of (number {n = n} {p = p} a0) = F.Num n p
   form_of (predef {f = f} {x = x} {p = p} a0 a1 a2) = F.Proj f x p
-  form_of (projection {r = f} {x = x} {p = p} a0 a1 a2 a3 a4) = F.Proj f x p
-  form_of (application a0 a1 a2 a3) = let x = spine_is_app a0 in F.App x.0 x.1 x.2
+  form_of (projection {r = f} {x = x} {p = p} a0 a1 a2 a3) = F.Proj f x p
+  form_of (application a0 a1 a2) = let x = spine_is_app a0 in F.App x.0 x.1 x.2
   form_of (overloaded k a0 a1 a2 a3 a4) = let x = spine_is_app a0 in F.App x.0 x.1 x.2
   form_of (selection {a = a} {b = b} {p = p} a0 a1 a2 a3 a4) = F.Select a b p
   form_of (branch_over {a = a} {b = b} {p = p} a0 a1 a2 a3 a4 a5) = F.Select a b p
@@ -268,8 +263,8 @@ module _ (items : List Item) where
   form_is (glue a0 a1 a2) = a0
   form_is (number a0) = a0
   form_is (predef a0 a1 a2) = a0
-  form_is (projection a0 a1 a2 a3 a4) = a0
-  form_is (application a0 a1 a2 a3) = (spine_is_app a0).3
+  form_is (projection a0 a1 a2 a3) = a0
+  form_is (application a0 a1 a2) = (spine_is_app a0).3
   form_is (overloaded k a0 a1 a2 a3 a4) = (spine_is_app a0).3
   form_is (selection a0 a1 a2 a3 a4) = a0
   form_is (branch_over a0 a1 a2 a3 a4 a5) = a0
@@ -284,6 +279,57 @@ module _ (items : List Item) where
   form_is (let_found a0 a1 a2) = a0
   form_is (variants_found a0 a1) = a0
   form_is (type_form a0 a1) = refl
+
+  -- Ints and Predef alone are no types, so nothing is found for them
+  abbrev is_written_sort : F.Term-F Term → Bool
+  is_written_sort (F.Sort Sort.Ints p) = false
+  is_written_sort (F.Sort Sort.Predef p) = false
+  is_written_sort d = true
+
+  sort-type : {e : Term} {T : CType} → IsType items e T → is_written_sort (form e) ≡ true
+  sort-type (text_type h) = ap is_written_sort h
+  sort-type (type_of_types h) = ap is_written_sort h
+  sort-type (type_of_parameters h) = ap is_written_sort h
+  sort-type (numbers_to h i j k) = ap is_written_sort h
+  sort-type (labels h i) = ap is_written_sort h
+  sort-type (table_over h i j k l) = ap is_written_sort h
+  sort-type (function_from h i j k) = ap is_written_sort h
+  sort-type (pair_of h i) = ap is_written_sort h
+  sort-type (parameters_named h i j) = ap is_written_sort h
+  sort-type (oper_named n h i j k l) = ap is_written_sort h
+  sort-type (definition_named n h i j k) = ap is_written_sort h
+
+  sort-found : {Γ : Scope} {e : Term} {T : CType} {t : LinTerm} → Finds items Γ e T t → is_written_sort (form e) ≡ true
+  sort-found (type_form a0 a1) = sort-type a1
+  sort-found d = ap is_written_sort (form_is d)
+
+  no-sort-found : {Γ : Scope} {e : Term} {T : CType} {t : LinTerm} {l : F.Term-F Term} → Finds items Γ e T t → form e ≡ l → is_written_sort l ≡ false → ⊥
+  no-sort-found d h k = apart (sym k ∙ ap is_written_sort (sym h) ∙ sort-found d)
+
+  no_ints : {Γ : Scope} {e d f a : Term} {es : List Term} {T S : CType} {t : LinTerm} → Spine e [] f (a ∷ es) → Finds items Γ f S t → IsType items d T → e ≡ d → ⊥
+  no_ints s h t e =
+      let x = spine_is_app s in let i = ints_head t (ap form (sym e) ∙ x.3) in no-sort-found h (spine_ints s x.3 i.1) refl
+
+  -- an overload that stands alone is data, and what takes arguments is none
+  bare-data : {F R : CType} {As : List CType} {t u : LinTerm} {us : List LinTerm} → Takes items F t As us R u → As ≡ [] → IsData R
+  bare-data (takes_none d) e = d
+  bare-data (takes a b c) e = absurd (cc)
+
+  chosen-data : {w : Whole} {k : ℕ} {R : CType} {u : LinTerm} → Suits items w [] [] k R u → IsData R
+  chosen-data (suits_by a0 a1 a2) = bare-data a2 refl
+
+  overload-found : {Γ : Scope} {f : Term} {w : Whole} {p : Place} {T A B : CType} {t : LinTerm} → Finds items Γ f T t → form f ≡ F.Var (WholeName w) p → Stands items w an_overload → out-CType T ≡ C.Fun A B → ⊥
+  overload-found (alternative_alone k a0 a1 a2) h s e = chosen-data a2.suits _ _ e
+  overload-found (constructor_name a0 a1 a2 a3) h s e = cc
+  overload-found (typed_oper k a0 a1 a2) h s e = cc
+  overload-found (untyped_oper k a0 a1 a2) h s e = cc
+  overload-found (parameter_name a0 (parameter_of a1 a2 a3)) h s e = cc
+  overload-found (type_form a0 a1) h s e = apart (ap is_type_form (sym h) ∙ a0)
+  overload-found d h s e = apart-tags _ _ refl (ap tag (sym h ∙ form_is d))
+
+  takes-arguments : {Γ : Scope} {T R : CType} {t u : LinTerm} {a : Term} {es ds : List Term} → ChecksArguments items Γ T t es R u → es ≡ a ∷ ds → (A : CType) × (B : CType) × (out-CType T ≡ C.Fun A B)
+  takes-arguments no_argument_left e = absurd (cc)
+  takes-arguments (next_argument {A = A} {B = B} h i j) e = (A, B, h)
 
   abbrev pub check_form : {Γ : Scope} {e : Term} {T : CType} {t : LinTerm} → Checks items Γ e T t → F.Term-F Term
   check_form (lambda {b = b} {xs = xs} {p = p} a0 a1) = F.Fun xs b p
@@ -341,8 +387,8 @@ module _ (items : List Item) where
   empty-found (glue a0 a1 a2) h = cc
   empty-found (number a0) h = cc
   empty-found (predef a0 a1 a2) h = cc
-  empty-found (projection a0 a1 a2 a3 a4) h = cc
-  empty-found (application a0 a1 a2 a3) h = let x = (spine_is_app a0).3 in cc
+  empty-found (projection a0 a1 a2 a3) h = cc
+  empty-found (application a0 a1 a2) h = let x = (spine_is_app a0).3 in cc
   empty-found (overloaded ak a0 a1 a2 a3 a4) h = let x = (spine_is_app a0).3 in cc
   empty-found (selection a0 a1 a2 a3 a4) h = cc
   empty-found (branch_over a0 a1 a2 a3 a4 a5) h = cc
@@ -411,19 +457,19 @@ module _ (items : List Item) where
     find-once (number a0) (type_form b0 b1) g e = let k : false ≡ true = ap is_type_form (sym a0 ∙ ap form e) ∙ b0 in absurd (apart k)
     find-once (number a0) d g e = absurd (apart-tags _ _ refl (same-tag a0 e (form_is d)))
     find-once (predef a0 a1 a2) (predef b0 b1 b2) g e = (refl, cc)
-    find-once (predef a0 a1 a2) (projection b0 b1 b2 b3 b4) g e = absurd (b1 _ (apart-heads a0 b0 e a1))
+    find-once (predef a0 a1 a2) (projection b0 b1 b2 b3) g e = absurd (no-sort-found b1 (apart-heads a0 b0 e a1) refl)
     find-once (predef a0 a1 a2) (type_form b0 b1) g e = let k : false ≡ true = ap is_type_form (sym a0 ∙ ap form e) ∙ b0 in absurd (apart k)
     find-once (predef a0 a1 a2) d g e = absurd (apart-tags _ _ refl (same-tag a0 e (form_is d)))
-    find-once (projection a0 a1 a2 a3 a4) (projection b0 b1 b2 b3 b4) g e = let i = find-once a2 b2 g (cc) in (cc, cc)
-    find-once (projection a0 a1 a2 a3 a4) (predef b0 b1 b2) g e = absurd (a1 _ (apart-heads b0 a0 (sym e) b1))
-    find-once (projection a0 a1 a2 a3 a4) (type_form b0 b1) g e = let k : false ≡ true = ap is_type_form (sym a0 ∙ ap form e) ∙ b0 in absurd (apart k)
-    find-once (projection a0 a1 a2 a3 a4) d g e = absurd (apart-tags _ _ refl (same-tag a0 e (form_is d)))
-    find-once (application a0 a1 a2 a3) (application b0 b1 b2 b3) g e = let s = spine-once a0 b0 e refl in let i = find-once a1 b1 g s.0 in arguments-once a3 b3 g i.0 i.1 s.1
-    find-once (application a0 a1 a2 a3) (overloaded bk b0 b1 b2 b3 b4) g e = let s = spine-once a0 b0 e refl in absurd (a2.not_overloaded _ _ (ap form s.0 ∙ b1) b2)
-    find-once (application a0 a1 a2 a3) (type_form b0 b1) g e = absurd (no_ints a0 a2 b1 e)
-    find-once (application a0 a1 a2 a3) d g e = absurd (apart-tags _ _ refl (same-tag (spine_is_app a0).3 e (form_is d)))
+    find-once (projection a0 a1 a2 a3) (projection b0 b1 b2 b3) g e = let i = find-once a1 b1 g (cc) in (cc, cc)
+    find-once (projection a0 a1 a2 a3) (predef b0 b1 b2) g e = absurd (no-sort-found a1 (apart-heads b0 a0 (sym e) b1) refl)
+    find-once (projection a0 a1 a2 a3) (type_form b0 b1) g e = let k : false ≡ true = ap is_type_form (sym a0 ∙ ap form e) ∙ b0 in absurd (apart k)
+    find-once (projection a0 a1 a2 a3) d g e = absurd (apart-tags _ _ refl (same-tag a0 e (form_is d)))
+    find-once (application a0 a1 a2) (application b0 b1 b2) g e = let s = spine-once a0 b0 e refl in let i = find-once a1 b1 g s.0 in arguments-once a2 b2 g i.0 i.1 s.1
+    find-once (application a0 a1 a2) (overloaded bk b0 b1 b2 b3 b4) g e = let s = spine-once a0 b0 e refl in let x = takes-arguments a2 refl in absurd (overload-found a1 (ap form s.0 ∙ b1) b2 x.2)
+    find-once (application a0 a1 a2) (type_form b0 b1) g e = absurd (no_ints a0 a1 b1 e)
+    find-once (application a0 a1 a2) d g e = absurd (apart-tags _ _ refl (same-tag (spine_is_app a0).3 e (form_is d)))
     find-once (overloaded ak a0 a1 a2 a3 a4) (overloaded bk b0 b1 b2 b3 b4) g e = let s = spine-once a0 b0 e refl in let i = all-once a3 b3 g s.1 in chosen-once a4 b4 (cc) i.0 i.1
-    find-once (overloaded ak a0 a1 a2 a3 a4) (application b0 b1 b2 b3) g e = let s = spine-once a0 b0 e refl in absurd (b2.not_overloaded _ _ (ap form (sym s.0) ∙ a1) a2)
+    find-once (overloaded ak a0 a1 a2 a3 a4) (application b0 b1 b2) g e = let s = spine-once a0 b0 e refl in let x = takes-arguments b2 refl in absurd (overload-found b1 (ap form (sym s.0) ∙ a1) a2 x.2)
     find-once (overloaded ak a0 a1 a2 a3 a4) (type_form b0 b1) g e = absurd (no_ints_var a0 a1 b1 e)
     find-once (overloaded ak a0 a1 a2 a3 a4) d g e = absurd (apart-tags _ _ refl (same-tag (spine_is_app a0).3 e (form_is d)))
     find-once (selection a0 a1 a2 a3 a4) (selection b0 b1 b2 b3 b4) g e = let i = find-once a2 b2 g (cc) in let j = check-once a4 b4 g (cc) (cc) in (cc, cc)
@@ -475,7 +521,7 @@ module _ (items : List Item) where
     find-once (variants_found a0 a1) (type_form b0 b1) g e = let k : false ≡ true = ap is_type_form (sym a0 ∙ ap form e) ∙ b0 in absurd (apart k)
     find-once (variants_found a0 a1) d g e = absurd (apart-tags _ _ refl (same-tag a0 e (form_is d)))
     find-once (type_form a0 a1) (type_form b0 b1) g e = (refl, refl)
-    find-once (type_form a0 a1) (application b0 b1 b2 b3) g e = absurd (no_ints b0 b2 a1 (sym e))
+    find-once (type_form a0 a1) (application b0 b1 b2) g e = absurd (no_ints b0 b1 a1 (sym e))
     find-once (type_form a0 a1) (overloaded bk b0 b1 b2 b3 b4) g e = absurd (no_ints_var b0 b1 a1 (sym e))
     find-once (type_form a0 a1) (record_found b0 b1) g e = absurd (no_record b0 b1 a0 a1 (sym e))
     find-once (type_form a0 a1) d g e = let k : is_type_form (form_of d) ≡ true = ap is_type_form (sym (form_is d) ∙ ap form (sym e)) ∙ a0 in absurd (apart k)

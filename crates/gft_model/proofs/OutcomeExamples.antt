@@ -14,7 +14,8 @@ use Rattle.gft_syntax.specs.declared.value.Value.TheViews.{out-roll-Value}
 use Rattle.gft_syntax.specs.declared.value.Param.TheViews.{out-roll-Param}
 use Rattle.gft_syntax.specs.declared.value.Value.TheFolds.{fold-roll-Value}
 use Rattle.gft_model.specs.ValueForms.{string_value, record_value}
-use Rattle.gft_model.specs.Outcomes.{Results, opers_of, outcomes_of, no_environment, none, Outcome, gives, stuck_at, glue_on_argument, match_on_argument, no_string_branch}
+use Rattle.gft_model.specs.Outcomes.{Results, opers_of, outcomes_of, no_environment, none, Outcome, gives, stuck_at}
+use Rattle.gft_rules.specs.declared.rule.Rule.TheVariants as R
 use Rattle.gft_syntax.specs.declared.ctype.CType.{roll-CType}
 use Rattle.gft_syntax.specs.declared.ctype.CType.TheOpen as C
 use Rattle.gft_syntax.specs.declared.linear.Branches.TheVariants.{Matched}
@@ -59,7 +60,7 @@ left_to_right = simp (results-roll, out-roll-Value)
 
 -- "a" + x, where x is a closed part, is no value: it is stuck at its place
 pub glue_is_stuck : outcomes_of (λ k. none) (made (L.Glue (word a) (made (L.Arg 0)) nowhere)) (record { arguments = string_value (Arg 0 0 ∷ []) ∷ []; variables = [] })
-    ≡ stuck_at (record { rule = glue_on_argument; place = nowhere }) ∷ []
+    ≡ stuck_at (record { rule = R.GlueOnArgument; place = nowhere }) ∷ []
 glue_is_stuck = simp (results-roll, out-roll-Value)
 
 -- "car" + "s"
@@ -112,18 +113,18 @@ closed_under_any = simp (results-roll, match-roll, out-roll-Value)
 
 -- case x of {"b" => "a" ; _ => "b"} there is stuck, and the second branch is not looked at
 pub closed_under_text : outcomes_of (λ k. none) (case (made (L.Arg 0)) ((text_pattern b, word a) ∷ (any, word b) ∷ [])) closed_argument
-    ≡ stuck_at (record { rule = match_on_argument; place = nowhere }) ∷ []
+    ≡ stuck_at (record { rule = R.MatchOnArgument; place = nowhere }) ∷ []
 closed_under_text = simp (results-roll, match-roll, out-roll-Value)
 
 -- case "a" of {"b" => "a"}: a known text that no branch matches
 pub no_branch_for_text : outcomes_of (λ k. none) (case (word a) ((text_pattern b, word a) ∷ [])) no_environment
-    ≡ stuck_at (record { rule = no_string_branch; place = nowhere }) ∷ []
+    ≡ stuck_at (record { rule = R.NoStringBranch; place = nowhere }) ∷ []
 unfolding chars lib.Utf8.encode
 no_branch_for_text = simp (results-roll, match-roll, out-roll-Value)
 
 -- ("a" + x) | "a" there: a stuck step is the outcome of its branch alone
 pub stuck_in_one : outcomes_of (λ k. none) (either (made (L.Glue (word a) (made (L.Arg 0)) nowhere)) (word a)) closed_argument
-    ≡ stuck_at (record { rule = glue_on_argument; place = nowhere }) ∷ string (Tok a ∷ []) ∷ []
+    ≡ stuck_at (record { rule = R.GlueOnArgument; place = nowhere }) ∷ string (Tok a ∷ []) ∷ []
 stuck_in_one = simp (results-roll, out-roll-Value)
 
 -- {s = "a" ; t = "b"} where {s : Str} stands is cut to s

@@ -6,7 +6,7 @@ use Rattle.gft_syntax.specs.declared.pattern.PatternField.{PatternField}
 use Rattle.gft_syntax.specs.declared.pattern.Pattern.TheOpen as P
 use Rattle.gft_syntax.specs.declared.reference.Reference.TheVariants.{Written, Whole as WholeName}
 use Rattle.gft_syntax.specs.declared.reference.Whole.{Whole}
-use Rattle.gft_model.specs.PatternTyping.{pattern_form, Scope, Constructs, PatternFits, either, sequence, constructor_with, repeated, as_well, anything, character, variable, literal, number, record_of, EachFits, no_more, more, FieldsFit, no_field, field}
+use Rattle.gft_model.specs.PatternTyping.{pattern_form, Scope, Constructs, constructs, PatternFits, either, sequence, constructor_with, repeated, as_well, anything, character, variable, literal, number, record_of, EachFits, no_more, more, FieldsFit, no_field, field}
 
 -- the form of a pattern that fits
 abbrev pub form_of : {T : CType} {r : Pattern} {Γ : Scope} → PatternFits T r Γ → P.Pattern-F Pattern
@@ -37,7 +37,7 @@ form_is (record_of a0 a1 a2) = a0
 
 -- the types of a constructor's arguments are determined
 pub same-arguments : {c d : Whole} {Ts Us : List CType} {T U : CType} → Constructs c Ts T → Constructs d Us U → T ≡ U → c ≡ d → Ts ≡ Us
-same-arguments a b e f = cc
+same-arguments (constructs a0 a1) (constructs b0 b1) e f = cc
 
 -- what equal lists of fields agree in
 heads : {a b : PatternField Pattern} {fs gs : List (PatternField Pattern)} → a ∷ fs ≡ b ∷ gs → (a.labels ≡ b.labels) × (a.pattern ≡ b.pattern) × (fs ≡ gs)

@@ -24,10 +24,12 @@ use Rattle.gft_syntax.specs.declared.term.Sort.TheVariants as Sort
 use Rattle.gft_syntax.specs.declared.term.Term.{Term, roll-Term}
 use Rattle.gft_syntax.specs.declared.term.Term.TheOpen as F
 use Rattle.gft_model.specs.ConcreteTypes.{HasLabels, field_of, fewer_labels, tables, numbers, functions, label, no_label, equal, values_of}
-use Rattle.gft_model.specs.ConcreteTyping.{empty_type, sort, Fits, FieldsHave, typed_given, typed_alone, IsData, IsType, Finds, Checks, Covers, patterns, passes, Takes, takes, takes_none, Suits, overloaded, text_type, function_from, next_found, none_found, found, append, literal, number, same, cut, predef, application, applied_to, at_head, next_argument, no_argument_left, record_given, value_given, value_found, no_field, branches, branch, no_branch}
+use Rattle.gft_model.specs.ConcreteTyping.{empty_type, sort, Fits, FieldsHave, typed_given, typed_alone, IsData, IsType, Finds, Checks, Covers, patterns, passes, Takes, takes, takes_none, Suits, suits_by, overloaded, text_type, function_from, next_found, none_found, found, append, literal, number, same, cut, predef, application, applied_to, at_head, next_argument, no_argument_left, record_given, value_given, value_found, no_field, branches, branch, no_branch}
 use Rattle.gft_model.specs.Items.{Item, alternative}
 use Rattle.gft_model.specs.Matching.{match_of, is_matched, parameter}
-use Rattle.gft_model.specs.PatternTyping.{pattern_form, no_more, Scope, PatternFits, Constructs, arguments_of, sequence, variable, literal as text_literal, constructor_with}
+use Rattle.std.specs.Map.{lookup}
+use Rattle.gft_model.specs.Matching.{same_whole}
+use Rattle.gft_model.specs.PatternTyping.{pattern_form, no_more, Scope, PatternFits, Constructs, constructs, sequence, variable, literal as text_literal, constructor_with}
 use Rattle.gft_model.specs.TypeForms.{FieldTypes, record_type, form, str_type, number_type, table_type, function_type, predef_term, greatest, made}
 use Rattle.gft_model.proofs.Computing.{form-roll, pattern_form-roll, match-roll}
 use Rattle.gft_model.proofs.TypeLaws.{type-once}
@@ -64,11 +66,11 @@ pub sequence_fits : PatternFits str_type (roll-Pattern (P.Seq (roll-Pattern (P.N
 sequence_fits = sequence (pattern_form-roll _) (variable (pattern_form-roll _)) (text_literal (pattern_form-roll _))
 
 -- Pl fits Number and binds nothing
-constructs : (x : List ℕ) → arguments_of (whole x) numbers_of ≡ Some [] → Constructs (whole x) [] number_of
-constructs x k = record { type_name = whole (codes "Number"); constructors = numbers_of; is_type = out-roll-CType _; has = k }
+of_number : (x : List ℕ) → lookup (same_whole (whole x)) numbers_of ≡ Some [] → Constructs (whole x) [] number_of
+of_number x k = constructs (out-roll-CType _) k
 
 pub plural_fits : PatternFits number_of (name (codes "Pl")) []
-plural_fits = constructor_with (pattern_form-roll _) (constructs (codes "Pl") refl) no_more
+plural_fits = constructor_with (pattern_form-roll _) (of_number (codes "Pl") refl) no_more
 
 -- a text fits nothing but Str
 pub texts_only : {T : CType} {r : Pattern} {Γ : Scope} (t : List ℕ) (p : Place) → PatternFits T r Γ → pattern_form r ≡ P.Text t p → T ≡ str_type
@@ -190,8 +192,8 @@ module _ (items : List Item) where
   pub table_fits : Checks items [] (table_of (branch_of (codes "Sg") (codes "a") ∷ branch_of (codes "Pl") (codes "b") ∷ [])) (table_type number_of str_type)
       (made (L.Table number_of (Matched ((name (codes "Sg"), words (codes "a")) ∷ (name (codes "Pl"), words (codes "b")) ∷ []))))
   table_fits = branches (form-roll _) (out-roll-CType _)
-      (branch (constructor_with (pattern_form-roll _) (constructs (codes "Sg") refl) no_more) (literal_fits (codes "a")) str_data
-      (branch (constructor_with (pattern_form-roll _) (constructs (codes "Pl") refl) no_more) (literal_fits (codes "b")) str_data no_branch))
+      (branch (constructor_with (pattern_form-roll _) (of_number (codes "Sg") refl) no_more) (literal_fits (codes "a")) str_data
+      (branch (constructor_with (pattern_form-roll _) (of_number (codes "Pl") refl) no_more) (literal_fits (codes "b")) str_data no_branch))
       (simp (fold-roll-CType, match-roll, out-roll-Param))
 
   -- table {Sg => "a"} does not: Pl is left out
@@ -220,7 +222,6 @@ module _ (items : List Item) where
   dp_is_str = application
       (applied_to (form-roll _) (applied_to (form-roll _) (at_head (no_application _ _ (form-roll _) refl))))
       (predef (form-roll _) (form-roll _) refl)
-      (record { not_overloaded = λ w p h. let k = form-roll (F.Proj (roll-Term (F.Sort Sort.Predef nowhere)) (codes "dp") nowhere) in absurd (cc); not_ints = λ p h. let k = form-roll (F.Proj (roll-Term (F.Sort Sort.Predef nowhere)) (codes "dp") nowhere) in cc })
       (next_argument (out-roll-CType _) two_fits (next_argument (out-roll-CType _) (literal_fits (codes "flies")) no_argument_left))
 
 -- f = overload {f : Str -> Str ; f : Str -> Str -> Str}
@@ -252,16 +253,8 @@ abbrev second_on : LinTerm → LinTerm → LinTerm
 second_on t u = made (L.App (made (L.App (made (L.Oper 1)) t)) u)
 
 suits_second : (t u : LinTerm) → Suits overload (whole (codes "f")) (str_type ∷ str_type ∷ []) (t ∷ u ∷ []) 1 str_type (second_on t u)
-suits_second t u = record {
-  before = None;
-  binds = [];
-  written = two_words;
-  definition = zero_term;
-  its_type = from_str (from_str str_type);
-  stands = refl;
-  is_type = two_is;
-  taken = takes (out-roll-CType _) same (takes (out-roll-CType _) same (takes_none (str_data overload)));
-}
+suits_second t u =
+    suits_by refl two_is (takes (out-roll-CType _) same (takes (out-roll-CType _) same (takes_none (str_data overload))))
 
 -- an alternative with one parameter does not take two arguments
 no_function : {F R : CType} {Ss : List CType} {t u : LinTerm} {vs : List LinTerm} → Takes overload F t Ss vs R u → F ≡ str_type → Ss ≡ str_type ∷ [] → ⊥
@@ -273,10 +266,10 @@ one_takes_one (takes_none a) e g = cc
 one_takes_one (takes a b c) e g = let k = out-roll-CType (C.Fun str_type str_type) in let l = ap out-CType e in no_function c (cc) (cc)
 
 only_second : (t u : LinTerm) (j : ℕ) (S : CType) (v : LinTerm) → Suits overload (whole (codes "f")) (str_type ∷ str_type ∷ []) (t ∷ u ∷ []) j S v → j ≡ 1
-only_second t u zero S v s = let h = s.stands in
-    let i : one_word ≡ s.written = cc in absurd (one_takes_one s.taken (type-once overload s.is_type one_is (sym i)) refl)
+only_second t u zero S v (suits_by {D = D} a b c) =
+    let i : one_word ≡ D = cc in absurd (one_takes_one c (type-once overload b one_is (sym i)) refl)
 only_second t u (suc zero) S v s = refl
-only_second t u (suc (suc j)) S v s = let h = s.stands in cc
+only_second t u (suc (suc j)) S v (suits_by a b c) = cc
 
 -- f "a" "b" is found to be Str, and means the second alternative
 pub overload_is_chosen : Finds overload [] (apply (apply f (word (codes "a"))) (word (codes "b"))) str_type (second_on (words (codes "a")) (words (codes "b")))

@@ -1,9 +1,8 @@
 -- Faults of a language when it is compiled, over a typed grammar.
-use Rattle.std.specs.Prelude.{◌≡◌, ℕ, ◌<◌, ◌+◌, List, [], ◌∷◌, ◌++◌, map, flat_map, length, true, false, ◌↔◌, Contains, Option, Some, None, ◌≢◌}
+use Rattle.std.specs.Prelude.{◌≡◌, ℕ, ◌<◌, ◌+◌, List, [], ◌∷◌, ◌++◌, map, flat_map, length, Bool, true, false, ◌↔◌, Contains, Option, Some, None, ◌≢◌}
 use Rattle.std.specs.List.{list_any}
 use Rattle.gft_core.specs.declared.place.Place.{Place}
 use Rattle.gft_rules.specs.declared.refusal.Refusal.{Refusal}
-use Rattle.gft_rules.specs.declared.rule.Rule.{Rule}
 use Rattle.gft_rules.specs.declared.rule.Rule.TheVariants as R
 use Rattle.gft_syntax.specs.declared.flat.Flat.{Flat}
 use Rattle.gft_syntax.specs.declared.flat.FlatConcrete.{FlatConcrete}
@@ -12,32 +11,20 @@ use Rattle.gft_syntax.specs.declared.judgement.Keyword.{Keyword}
 use Rattle.gft_syntax.specs.declared.judgement.Keyword.TheVariants as K
 use Rattle.gft_syntax.specs.declared.reference.PlacedName.{PlacedName}
 use Rattle.gft_syntax.specs.declared.value.Value.{Value}
-use Rattle.gft_model.specs.ConcreteTypes.{cells_of_type, cases_of, product_of}
+use Rattle.gft_model.specs.ConcreteTypes.{cells_of_type, choices}
+use Rattle.gft_model.specs.Compiled.{cases_in}
 use Rattle.gft_model.specs.Items.{items_of}
-use Rattle.gft_model.specs.JudgementTyping.{Signature, signature_in}
-use Rattle.gft_model.specs.Languages.{is_lin, is_lincat, is_lindef, is_linref, lin_type}
-use Rattle.gft_model.specs.Outcomes.{Outcome, gives, stuck_at, given, Stuck, StuckRule, glue_on_argument, match_on_argument, no_string_branch}
-use Rattle.gft_model.specs.Productions.{outcomes_by_case, case_values}
+use Rattle.gft_model.specs.Languages.{is_judgement, lin_type, arguments_of}
+use Rattle.gft_model.specs.Outcomes.{Outcome, gives, stuck_at, given, Stuck}
+use Rattle.gft_model.specs.Productions.{argument_cases, outcomes_by_case, case_values}
 use Rattle.gft_model.specs.Refusals.{Moment, refusal, placeless, name_moment}
 use Rattle.gft_model.specs.TreeStrings.{string_outcomes}
 use Rattle.gft_model.specs.TreeValues.{hole_outcomes}
 use Rattle.gft_model.specs.Modules.{placed_names, sort_of}
 
--- cells of a linearization type, cases of a category or of a function, results of a function
-abbrev pub most_cells : ℕ
-most_cells = 65536
-
-abbrev pub most_cases : ℕ
-most_cases = 65536
-
-abbrev pub most_results : ℕ
-most_results = 65536
-
--- the rule of a stuck step
-abbrev pub stuck_rule : StuckRule → Rule
-stuck_rule glue_on_argument = R.GlueOnArgument
-stuck_rule match_on_argument = R.MatchOnArgument
-stuck_rule no_string_branch = R.NoStringBranch
+-- the most cells of a linearization type, cases of a category or of a function, and results of a function
+abbrev pub most : ℕ
+most = 65536
 
 -- the first stuck step among outcomes
 abbrev pub first_stuck : List Outcome → Option Stuck
@@ -55,18 +42,18 @@ pub data HasResults : List (List Outcome) → ℕ → Type 0 where
   no_case : HasResults [] 0
   one_case : {os rest vs n : _} → AreDistinct (given os) vs → HasResults rest n → HasResults (os ∷ rest) (length vs + n)
 
--- how many cases a category has
-abbrev pub case_count : Flat → List ℕ → List ℕ → ℕ
-case_count flat lang C = elim (lin_type flat lang C) [ None ↦ 0 | Some T ↦ length (cases_of T) ]
+-- whether the language has a judgement of that keyword for the name
+abbrev pub is_there : Flat → List ℕ → Keyword → List ℕ → Bool
+is_there flat lang k x = list_any (is_judgement k lang x) (items_of flat)
 
 -- what is evaluated for a name: the lin of a function, the lindef or the linref of a category; the
 -- outcomes in each case
 pub data Evaluates (flat : Flat) (lang : List ℕ) : Keyword → List ℕ → List (List Outcome) → Type 0 where
-  of_function : {e : FlatJudgement} → Contains flat.funs e → list_any (is_lin lang e.whole.name) (items_of flat) ≡ true →
+  of_function : {e : FlatJudgement} → Contains flat.funs e → is_there flat lang K.Lin e.whole.name ≡ true →
       Evaluates flat lang K.Lin e.whole.name (map (λ c. c.1) (outcomes_by_case flat lang e.whole.name))
-  of_hole : {e : FlatJudgement} → Contains flat.cats e → list_any (is_lindef lang e.whole.name) (items_of flat) ≡ true →
+  of_hole : {e : FlatJudgement} → Contains flat.cats e → is_there flat lang K.Lindef e.whole.name ≡ true →
       Evaluates flat lang K.Lindef e.whole.name (hole_outcomes flat lang e.whole.name ∷ [])
-  of_string : {e : FlatJudgement} {T : _} → Contains flat.cats e → list_any (is_linref lang e.whole.name) (items_of flat) ≡ true →
+  of_string : {e : FlatJudgement} {T : _} → Contains flat.cats e → is_there flat lang K.Linref e.whole.name ≡ true →
       lin_type flat lang e.whole.name ≡ Some T →
       Evaluates flat lang K.Linref e.whole.name (map (string_outcomes flat lang e.whole.name) (case_values 0 T))
 
@@ -84,23 +71,23 @@ pub data StandsAt (flat : Flat) (lang : List ℕ) (k : Keyword) (x : List ℕ) :
 
 -- what is broken when a language of a typed grammar is compiled
 pub data BreaksCompiling (flat : Flat) (lang : List ℕ) : Moment → Refusal → Type 0 where
-  no_lincat : {e : FlatJudgement} → Contains flat.cats e → list_any (is_lincat lang e.whole.name) (items_of flat) ≡ false →
+  no_lincat : {e : FlatJudgement} → Contains flat.cats e → is_there flat lang K.Lincat e.whole.name ≡ false →
       BreaksCompiling flat lang (0 ∷ name_moment e.whole.name) (placeless R.NoLincat (lang ∷ e.whole.name ∷ []))
   too_many_cells : {e : FlatJudgement} {T p : _} → Contains flat.cats e → lin_type flat lang e.whole.name ≡ Some T →
-      most_cells < length (cells_of_type T) → StandsAt flat lang K.Lincat e.whole.name p →
+      most < length (cells_of_type T) → StandsAt flat lang K.Lincat e.whole.name p →
       BreaksCompiling flat lang (0 ∷ name_moment e.whole.name) (refusal R.TooManyCells p (lang ∷ e.whole.name ∷ []))
-  no_lin : {e : FlatJudgement} → Contains flat.funs e → list_any (is_lin lang e.whole.name) (items_of flat) ≡ false →
+  no_lin : {e : FlatJudgement} → Contains flat.funs e → is_there flat lang K.Lin e.whole.name ≡ false →
       BreaksCompiling flat lang (1 ∷ name_moment e.whole.name) (placeless R.NoLin (lang ∷ e.whole.name ∷ []))
-  too_many_cases : {e : FlatJudgement} {p : _} → Contains flat.cats e → most_cases < case_count flat lang e.whole.name →
+  too_many_cases : {e : FlatJudgement} {p : _} → Contains flat.cats e → most < length (cases_in flat lang e.whole.name) →
       StandsAt flat lang K.Lincat e.whole.name p →
       BreaksCompiling flat lang (2 ∷ name_moment e.whole.name) (refusal R.TooManyCases p (lang ∷ e.whole.name ∷ []))
-  too_many_argument_cases : {e : FlatJudgement} {s : Signature} {p : _} → Contains flat.funs e →
-      signature_in flat.funs e.whole.name ≡ Some s → most_cases < product_of (map (case_count flat lang) s.arguments) →
+  too_many_argument_cases : {e : FlatJudgement} {p : _} → Contains flat.funs e →
+      most < length (choices (argument_cases flat lang (arguments_of flat e.whole.name))) →
       StandsAt flat lang K.Lin e.whole.name p →
       BreaksCompiling flat lang (turn_of K.Lin e.whole.name ++ 0 ∷ []) (refusal R.TooManyCases p (lang ∷ e.whole.name ∷ []))
   is_stuck : {k x cases : _} {stuck : Stuck} → Evaluates flat lang k x cases →
       first_stuck (flat_map (λ os. os) cases) ≡ Some stuck →
-      BreaksCompiling flat lang (turn_of k x ++ 1 ∷ []) (refusal (stuck_rule stuck.rule) stuck.place (lang ∷ x ∷ []))
-  too_many_results : {k x cases n p : _} → Evaluates flat lang k x cases → HasResults cases n → most_results < n →
+      BreaksCompiling flat lang (turn_of k x ++ 1 ∷ []) (refusal stuck.rule stuck.place (lang ∷ x ∷ []))
+  too_many_results : {k x cases n p : _} → Evaluates flat lang k x cases → HasResults cases n → most < n →
       StandsAt flat lang k x p →
       BreaksCompiling flat lang (turn_of k x ++ 2 ∷ []) (refusal R.TooManyProductions p (lang ∷ x ∷ []))

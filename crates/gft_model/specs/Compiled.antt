@@ -1,5 +1,5 @@
 -- What a language compiles to: its productions, defs and refs over nonterminals by their numbers.
-use Rattle.std.specs.Prelude.{◌≡◌, ◌↔◌, ℕ, suc, ◌+◌, List, [], ◌∷◌, ◌++◌, map, flat_map, length, position, Contains, Option, Some, None, Bool, bytes_eq, if◌then◌else◌, option_and_then, option_map}
+use Rattle.std.specs.Prelude.{◌≡◌, ◌↔◌, ℕ, suc, ◌+◌, List, [], ◌∷◌, ◌++◌, map, flat_map, length, zip, position, Contains, Option, None, Bool, bytes_eq, if◌then◌else◌, option_map}
 use Rattle.std.specs.Option.{option_map_or}
 use Rattle.gft_pmcfg.specs.declared.concrete.Concrete.{Concrete}
 use Rattle.gft_pmcfg.specs.declared.concrete.Def.{Def}
@@ -18,7 +18,7 @@ use Rattle.gft_model.specs.JudgementTyping.{Signature, signature_in}
 use Rattle.gft_model.specs.Languages.{lin_type}
 use Rattle.gft_model.specs.Productions.{CaseProduction, productions_of, defs_of, refs_of}
 use Rattle.gft_model.specs.Runs.{IsKept}
-use Rattle.gft_model.specs.Values.{each_same, same_param}
+use Rattle.gft_model.specs.Values.{all_there, each_same, same_param}
 
 -- two cases are the same
 abbrev pub same_case : List Param → List Param → Bool
@@ -50,10 +50,7 @@ module _ (flat : Flat) (lang : List ℕ) where
 
   -- those of several categories, each in its case
   abbrev pub nonterminals : List Cat → List (List ℕ) → List (List Param) → Option (List ℕ)
-  nonterminals cats [] [] = Some []
-  nonterminals cats (C ∷ Cs) (v ∷ vs) =
-      option_and_then (λ n. option_map (λ ns. n ∷ ns) (nonterminals cats Cs vs)) (nonterminal 0 cats C v)
-  nonterminals cats Cs vs = None
+  nonterminals cats Cs vs = all_there (map (λ c. nonterminal 0 cats c.0 c.1) (zip Cs vs))
 
   -- a production of the function of number k
   abbrev pub numbered_production : List Cat → ℕ → Signature → CaseProduction → List Prod

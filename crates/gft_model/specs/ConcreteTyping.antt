@@ -1,6 +1,6 @@
 -- Concrete typing: which types are found for terms and which terms fit a given type, each with the
 -- typed term that says what the term means.
-use Rattle.std.specs.Prelude.{◌≡◌, ℕ, ◌≤◌, List, [], ◌∷◌, ◌++◌, map, reverse, length, ◌⊎◌, Option, Some, None, IsTrue, Bool, true, false, ◌&&◌}
+use Rattle.std.specs.Prelude.{◌≡◌, ℕ, ◌≤◌, List, [], ◌∷◌, ◌++◌, map, reverse, length, ◌⊎◌, Some, None, IsTrue, Bool, true, false, ◌&&◌}
 use Rattle.std.specs.Option.{is_some}
 use Rattle.std.specs.List.{list_all, list_any}
 use Rattle.gft_core.specs.Words.{words_of}
@@ -106,26 +106,14 @@ module _ (items : List Item) where
         Takes B (made (Lin-F.App t v)) Ss us R w → Takes F t (S ∷ Ss) (u ∷ us) R w
 
   -- the alternative of that number takes the arguments
-  pub record Suits (w : Whole) (As : List CType) (us : List LinTerm) (k : ℕ) (R : CType) (u : LinTerm) : Type 0 where
-    pub before : Option Term
-    pub binds : List Bind
-    pub written : Term
-    pub definition : Term
-    pub its_type : CType
-    pub stands : At items k (alternative w before binds written definition)
-    pub is_type : IsType items written its_type
-    pub taken : Takes its_type (made (Lin-F.Oper k)) As us R u
+  pub data Suits (w : Whole) (As : List CType) (us : List LinTerm) (k : ℕ) (R : CType) (u : LinTerm) : Type 0 where
+    suits_by : {e xs D d F : _} → At items k (alternative w e xs D d) → IsType items D F →
+        Takes F (made (Lin-F.Oper k)) As us R u → Suits w As us k R u
 
   -- it is the only one
   pub record Chosen (w : Whole) (As : List CType) (us : List LinTerm) (k : ℕ) (R : CType) (u : LinTerm) : Type 0 where
     pub suits : Suits w As us k R u
     pub alone : (j : ℕ) (S : CType) (v : LinTerm) → Suits w As us j S v → j ≡ k
-
-  -- a head that is applied as it is found: no overload, and not Ints
-  pub record IsHead (f : Term) : Type 0 where
-    pub not_overloaded : (w : Whole) (p : Place) → form f ≡ Term-F.Var (WholeName w) p →
-        ¬ (Stands items w an_overload)
-    pub not_ints : (p : Place) → ¬ (form f ≡ Term-F.Sort Sort-V.Ints p)
 
   mutual
     -- the term has the type where none is given, and means the typed term
@@ -150,10 +138,9 @@ module _ (items : List Item) where
       number : {Γ e n p : _} → form e ≡ Term-F.Num n p → Finds Γ e (number_type n) (made (Lin-F.Num n))
       predef : {Γ e f x p q r : _} → form e ≡ Term-F.Proj f x p → form f ≡ Term-F.Sort Sort-V.Predef q → predef_named x ≡ Some r →
           Finds Γ e predef_type (predef_term r p)
-      projection : {Γ e r x p R T fs t : _} → form e ≡ Term-F.Proj r x p →
-          ((q : Place) → ¬ (form r ≡ Term-F.Sort Sort-V.Predef q)) → Finds Γ r R t → out-CType R ≡ CType-F.Record fs →
+      projection : {Γ e r x p R T fs t : _} → form e ≡ Term-F.Proj r x p → Finds Γ r R t → out-CType R ≡ CType-F.Record fs →
           field_of x fs ≡ Some T → Finds Γ e T (made (Lin-F.Proj t x))
-      application : {Γ e f a es F R t u : _} → Spine e [] f (a ∷ es) → Finds Γ f F t → IsHead f →
+      application : {Γ e f a es F R t u : _} → Spine e [] f (a ∷ es) → Finds Γ f F t →
           ChecksArguments Γ F t (a ∷ es) R u → Finds Γ e R u
       overloaded : {Γ e f a es w : _} (k : ℕ) {p As us R u : _} → Spine e [] f (a ∷ es) → form f ≡ Term-F.Var (WholeName w) p →
           Stands items w an_overload → FindsAll Γ (a ∷ es) As us → Chosen w As us k R u → Finds Γ e R u

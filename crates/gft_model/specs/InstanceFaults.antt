@@ -54,17 +54,10 @@ alternative_types w (i ∷ is) = alternative_types w is
 
 module _ (mods : List Module) (m : Module) (flat : Flat) where
   -- the instance gives e for what its interface declares under x; names are what the names in a copy of that mean
-  pub record Replaced (x : List ℕ) (e : Declared) (text : Judgement) (names : Names) : Type 0 where
-    pub own : PlacedName
-    pub interface : PlacedName
-    pub header : m.header ≡ Instance own interface
-    pub declared : Declared
-    pub has : Has mods interface.name x declared
-    pub writes : Writes mods declared text
-    pub is_main : main_name text x ≡ x
-    pub gives : HasNameable mods own.name x e
-    pub is_no_copy : e ≢ copy own.name declared
-    pub meanings : AreMeanings mods (copy own.name declared) names
+  pub data Replaced (x : List ℕ) (e : Declared) (text : Judgement) (names : Names) : Type 0 where
+    replaced : {own interface : PlacedName} {d : _} → m.header ≡ Instance own interface → Has mods interface.name x d →
+        Writes mods d text → main_name text x ≡ x → HasNameable mods own.name x e → e ≢ copy own.name d →
+        AreMeanings mods (copy own.name d) names → Replaced x e text names
 
   -- the name is that of a parameter type: by a param, by an oper of type PType, or by one that is a param's name
   pub data GivesParameter (w : Whole) : Type 0 where
@@ -84,14 +77,13 @@ module _ (mods : List Module) (m : Module) (flat : Flat) where
         AllZip (IsType (items flat)) (alternative_types w (items flat)) Bs → As ≢ Bs → HasAnotherType w names (alternatives ts)
     no_parameter_type : ¬ (GivesParameter w) → HasAnotherType w names a_parameter_type
 
-  -- the turns of a declared type and of its comparison: once the own judgement is typed, by its names in order; of an
+  -- the turn of a declared type and of its comparison: once the own judgement is typed, by its names in order; of an
   -- inherited one, after all own judgements, by name
-  pub data TurnOf (order : List FlatJudgement) (w : Whole) : Moment → Moment → Type 0 where
+  pub data TurnOf (order : List FlatJudgement) (w : Whole) : Moment → Type 0 where
     own_turn : {k i : _} {f : FlatJudgement} → slice_get order k ≡ Some f → slice_get (answered None f) i ≡ Some w →
-        TurnOf order w (k ∷ suc (length (judgement_sites w.«module» w.name f.judgement)) ∷ i ∷ 0 ∷ [])
-        (k ∷ suc (length (judgement_sites w.«module» w.name f.judgement)) ∷ i ∷ 1 ∷ [])
+        TurnOf order w (k ∷ suc (length (judgement_sites w.«module» w.name f.judgement)) ∷ i ∷ [])
     inherited_turn : ((f : FlatJudgement) → Contains order f → ¬ (Contains (answered None f) w)) →
-        TurnOf order w (length order ∷ name_moment w.name ++ 0 ∷ []) (length order ∷ name_moment w.name ++ 1 ∷ [])
+        TurnOf order w (length order ∷ name_moment w.name)
 
   -- the types that are declared
   abbrev pub declared_types : Wanted → List Term
@@ -101,9 +93,10 @@ module _ (mods : List Module) (m : Module) (flat : Flat) where
 
   -- what is broken where an instance replaces what its interface declares
   pub data BreaksInstance (order : List FlatJudgement) : Moment → Refusal → Type 0 where
-    in_declared_type : {x e j names turn after at r : _} → Replaced x e j names → TurnOf order (whole_of x e) turn after →
+    in_declared_type : {x e j names turn at r : _} → Replaced x e j names → TurnOf order (whole_of x e) turn →
         BreaksSites flat (map (λ t. type_site any_role (resolved names t [])) (declared_types (wanted_of j))) at r →
-        BreaksInstance order (turn ++ at) r
-    of_another_type : {x e j text names : _} {n : PlacedName} {turn after : _} → Replaced x e j names →
-        TurnOf order (whole_of x e) turn after → HasAnotherType (whole_of x e) names (wanted_of j) → Writes mods e text →
-        Contains (placed_names text) n → n.name ≡ x → BreaksInstance order after (refusal R.InstanceType n.place (x ∷ []))
+        BreaksInstance order (turn ++ 0 ∷ at) r
+    of_another_type : {x e j text names : _} {n : PlacedName} {turn : _} → Replaced x e j names →
+        TurnOf order (whole_of x e) turn → HasAnotherType (whole_of x e) names (wanted_of j) → Writes mods e text →
+        Contains (placed_names text) n → n.name ≡ x →
+        BreaksInstance order (turn ++ 1 ∷ []) (refusal R.InstanceType n.place (x ∷ []))

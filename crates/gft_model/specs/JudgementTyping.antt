@@ -1,6 +1,7 @@
 -- What typing gives for each numbered judgement: its typed term and the type of that.
-use Rattle.std.specs.Prelude.{◌≡◌, ℕ, List, [], ◌∷◌, ◌++◌, replicate, bytes_eq, if◌then◌else◌, Option, Some, None, ◌⊎◌, codes, Contains}
-use Rattle.std.specs.List.{AllZip}
+use Rattle.std.specs.Prelude.{◌≡◌, ℕ, List, [], ◌∷◌, ◌++◌, replicate, bytes_eq, if◌then◌else◌, Option, Some, None, ◌⊎◌, codes, Contains, All, option_map}
+use Rattle.std.specs.List.{AllZip, find}
+use Rattle.std.specs.Option.{option_to_list}
 use Rattle.gft_syntax.specs.declared.ctype.CType.{CType, roll-CType}
 use Rattle.gft_syntax.specs.declared.ctype.CType.TheOpen as CType-F
 use Rattle.gft_syntax.specs.declared.flat.Flat.{Flat}
@@ -64,8 +65,7 @@ signature_given f j = headed []
 
 -- the signature of the function of that name
 abbrev pub signature_in : List FlatJudgement → List ℕ → Option Signature
-signature_in [] f = None
-signature_in (j ∷ js) f = if bytes_eq f j.whole.name then Some (signature_given f j.judgement) else signature_in js f
+signature_in js f = option_map (λ j. signature_given f j.judgement) (find (λ j. bytes_eq f j.whole.name) js)
 
 -- the type of literals: a record of one string
 abbrev pub literal_type : CType
@@ -94,11 +94,6 @@ module _ (flat : Flat) where
     from_string : {C T : _} → HasLinType lang C T → HasGiven lang K.Lindef C (function_type str_type T)
     to_string : {C T : _} → HasLinType lang C T → HasGiven lang K.Linref C (function_type T str_type)
 
-  -- what is written before the word overload, where something is, is a type
-  pub data IsWritten : Option Term → Type 0 where
-    nothing_written : IsWritten None
-    type_written : {e T : _} → IsType items e T → IsWritten (Some e)
-
   -- the judgement means the typed term, which has the type; one that names a type means the empty
   -- record and has that type; an oper without definition has no outcome, and a parameter type without
   -- constructors no value
@@ -113,8 +108,8 @@ module _ (flat : Flat) where
     found_type : {w d S T t : _} → Finds items [] d S t → IsSort S → IsType items d T → NoCycle items w →
         HasTyping (oper w None (Some d)) no_value T
     found_oper : {w d T t : _} → Finds items [] d T t → ¬ (IsSort T) → NoCycle items w → HasTyping (oper w None (Some d)) t T
-    of_overload : {w e D d T t : _} → IsWritten e → IsType items D T → Checks items [] d T t → NoCycle items w →
-        HasTyping (alternative w e [] D d) t T
+    of_overload : {w e D d T t : _} → All (λ E. (A : CType) × IsType items E A) (option_to_list e) →
+        IsType items D T → Checks items [] d T t → NoCycle items w → HasTyping (alternative w e [] D d) t T
     linearization_type : {lang w e T : _} → IsType items e T → IsData T → HasTyping (lincat lang w e) no_value T
     linearization : {lang : _} {w : Whole} {e T t : _} → HasGiven lang K.Lin w.name T → Checks items [] e T t →
         HasTyping (lin lang w e) t T

@@ -1,10 +1,12 @@
 -- The outcomes of a typed term in an environment of values.
-use Rattle.std.specs.Prelude.{ℕ, zero, suc, List, [], ◌∷◌, ◌++◌, map, length, reverse, zip, Option, Some, None, chars, encode_utf8_all, option_and_then, option_map, slice_get}
+use Rattle.std.specs.Prelude.{ℕ, zero, suc, List, [], ◌∷◌, ◌++◌, map, length, reverse, zip, Option, chars, encode_utf8_all, option_and_then, option_map, slice_get}
 use Rattle.std.specs.Map.{keys_of}
-use Rattle.std.specs.Option.{option_map_or}
+use Rattle.std.specs.Option.{option_map_or, option_to_list}
 use Rattle.gft_core.specs.Words.{words_of, joined}
 use Rattle.gft_core.specs.declared.place.Place.{Place}
 use Rattle.gft_core.specs.declared.symbol.Sym.{Sym}
+use Rattle.gft_rules.specs.declared.rule.Rule.{Rule}
+use Rattle.gft_rules.specs.declared.rule.Rule.TheVariants as R
 use Rattle.gft_syntax.specs.declared.ctype.CType.{CType, out-CType}
 use Rattle.gft_syntax.specs.declared.ctype.CType.TheOpen.{CType-F}
 use Rattle.gft_syntax.specs.declared.ctype.CType.TheFolds.{para-CType}
@@ -21,19 +23,14 @@ use Rattle.gft_syntax.specs.declared.value.Param.TheOpen.{Param-F}
 use Rattle.gft_syntax.specs.declared.value.Value.{Value, out-Value}
 use Rattle.gft_syntax.specs.declared.value.Value.TheOpen.{Value-F}
 use Rattle.gft_model.specs.Values.{string_in, fields_in, entries_in, all_there, param_of, entry_at, extended, part, glued, cut_value}
-use Rattle.gft_model.specs.ConcreteTypes.{field_of, values_of}
+use Rattle.gft_model.specs.ConcreteTypes.{field_of, values_of, function_in}
 use Rattle.gft_model.specs.Matching.{Bindings, Match, matched, differs, hidden, Subject, parameter, closed, match_of, string_subject, known_words, words_value}
 use Rattle.gft_model.specs.ValueForms.{con_param, number_param, string_value, param_value, record_value, table_value}
 
--- why a step is stuck: + on a closed part, a pattern or Predef on a closed part, no branch for a text
-pub data StuckRule : Type 0 where
-  glue_on_argument : StuckRule
-  match_on_argument : StuckRule
-  no_string_branch : StuckRule
-
--- a stuck step: its rule and its place
+-- a stuck step: its rule, of + on a closed part, of a pattern or Predef on a closed part, or of no branch for a text,
+-- and its place
 pub record Stuck : Type 0 where
-  pub rule : StuckRule
+  pub rule : Rule
   pub place : Place
 
 -- an outcome of a term of data
@@ -65,7 +62,7 @@ abbrev pub one : Meaning → Results
 one m = also m none
 
 -- one stuck step
-abbrev pub stuck_by : StuckRule → Place → Results
+abbrev pub stuck_by : Rule → Place → Results
 stuck_by rule place = stuck (record { rule = rule; place = place }) none
 
 -- the outcomes of the first, then those of the second
@@ -112,8 +109,7 @@ bind_all bs env = record { arguments = env.arguments; variables = bs ++ env.vari
 
 -- a variable, if one is named
 abbrev pub bind_in : Option (List ℕ) → Value → Environment → Environment
-bind_in None v env = env
-bind_in (Some x) v env = bind_all ((x, v) ∷ []) env
+bind_in x v env = bind_all (map (λ y. (y, v)) (option_to_list x)) env
 
 -- a value that is there
 abbrev pub just : Option Value → Results
@@ -128,7 +124,7 @@ abbrev pub with_param : Results → (Param → Results) → Results
 with_param r next = with_value r (λ v. option_map_or next (param_of v) none)
 
 -- what is made of the words of a string that holds words only; else it is stuck
-abbrev pub with_words : StuckRule → Place → List Sym → (List (List ℕ) → Results) → Results
+abbrev pub with_words : Rule → Place → List Sym → (List (List ℕ) → Results) → Results
 with_words rule place ss next = option_map_or next (known_words ss) (stuck_by rule place)
 
 -- a part of a known text, cut into words again
@@ -143,8 +139,8 @@ on_number f v = none
 -- where no branch matches, a text is stuck
 abbrev pub no_branch : Place → Subject → Results
 no_branch place (parameter v) = none
-no_branch place (Subject.text cs) = stuck_by no_string_branch place
-no_branch place (closed ss) = stuck_by match_on_argument place
+no_branch place (Subject.text cs) = stuck_by R.NoStringBranch place
+no_branch place (closed ss) = stuck_by R.MatchOnArgument place
 
 -- the branch, the next one, or what there is where that cannot be told
 abbrev pub taken : Match → (Bindings → Results) → Results → Results → Results
@@ -183,14 +179,11 @@ abbrev pub cut_meaning : CType × Cutting → CType → Meaning → Results
 cut_meaning T S (plain v) = one (plain (cut_value T.0 v))
 cut_meaning T S (function f) = T.1 S f
 
--- a function: its argument is cut to what its own type takes, and its result to what the supertype gives
-abbrev pub cut_function : CType × Cutting → CType-F CType → (Value → Results) → Results
-cut_function R (CType-F.Fun A B) f = one (function (λ v. and_then (f (cut_value A v)) (cut_meaning R B)))
-cut_function R d f = none
-
--- how functions of a layer are cut
+-- how functions of a layer are cut: the argument to what the function's own type takes, and the result to what the
+-- supertype gives
 abbrev pub cutting_step : CType-F (CType × Cutting) → Cutting
-cutting_step (CType-F.Fun P R) S f = cut_function R (out-CType S) f
+cutting_step (CType-F.Fun P R) S f = option_map_or
+    (λ p. one (function (λ v. and_then (f (cut_value p.0 v)) (cut_meaning R p.1)))) (function_in (out-CType S)) none
 cutting_step d S f = none
 
 -- what is of type S, cut to its supertype T
@@ -209,11 +202,11 @@ step opers (LinTerm-F.Con w ts) env =
 step opers (LinTerm-F.Concat a b) env =
     with_part string_in (a env) (λ ss. with_part string_in (b env) (λ ts. one (plain (string_value (ss ++ ts)))))
 step opers (LinTerm-F.Glue a b place) env =
-    with_part string_in (a env) (λ ss. with_part string_in (b env) (λ ts. with_words glue_on_argument place ss
-    (λ us. with_words glue_on_argument place ts (λ vs. one (plain (words_value (glued us vs)))))))
+    with_part string_in (a env) (λ ss. with_part string_in (b env) (λ ts. with_words R.GlueOnArgument place ss
+    (λ us. with_words R.GlueOnArgument place ts (λ vs. one (plain (words_value (glued us vs)))))))
 step opers (LinTerm-F.Predef p n s place) env =
     with_param (n env) (λ v. on_number (λ k. with_part string_in (s env)
-    (λ ss. with_words match_on_argument place ss (predef_string p k))) (out-Param v))
+    (λ ss. with_words R.MatchOnArgument place ss (predef_string p k))) (out-Param v))
 step opers (LinTerm-F.Record fs) env =
     with_values (map (λ f. f.1 env) fs)
     (λ vs. one (plain (record_value (extended [] (zip (keys_of fs) vs)))))
@@ -227,7 +220,7 @@ step opers (LinTerm-F.Select t e) env =
     with_part entries_in (t env) (λ es. with_param (e env) (λ p. just (entry_at p es)))
 step opers (LinTerm-F.Case e bs place) env =
     with_value (e env) (λ v. subject_of (out-Value v) v
-    (λ s. branch_at (stuck_by match_on_argument place) (no_branch place s) s bs env))
+    (λ s. branch_at (stuck_by R.MatchOnArgument place) (no_branch place s) s bs env))
 step opers (LinTerm-F.Variants ts) env = all_of (map (λ t. t env) ts)
 step opers (LinTerm-F.Let xs a b) env =
     with_values (map (λ x. a env) xs) (λ vs. b (bind_all (reverse (zip xs vs)) env))

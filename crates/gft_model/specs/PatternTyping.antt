@@ -1,5 +1,5 @@
 -- Which patterns fit a type, and the types of their variables.
-use Rattle.std.specs.Prelude.{◌≡◌, ℕ, List, [], ◌∷◌, ◌++◌, map, Option, Some, None}
+use Rattle.std.specs.Prelude.{◌≡◌, ℕ, List, [], ◌∷◌, ◌++◌, map, Some, None}
 use Rattle.std.specs.Map.{lookup}
 use Rattle.gft_syntax.specs.declared.ctype.CType.{CType, out-CType}
 use Rattle.gft_syntax.specs.declared.ctype.CType.TheOpen as CType-F
@@ -21,16 +21,9 @@ Scope = List (List ℕ × CType)
 abbrev pub SameScope : Scope → Scope → Type 0
 SameScope Γ Δ = (x : List ℕ) → field_of x Γ ≡ field_of x Δ
 
--- the types of a constructor's arguments: the first of that name
-abbrev pub arguments_of : Whole → List (Whole × List CType) → Option (List CType)
-arguments_of c ds = lookup (same_whole c) ds
-
 -- T is the parameter type that has the constructor c, whose arguments have the types
-pub record Constructs (c : Whole) (Ts : List CType) (T : CType) : Type 0 where
-  pub type_name : Whole
-  pub constructors : List (Whole × List CType)
-  pub is_type : out-CType T ≡ CType-F.Param type_name constructors
-  pub has : arguments_of c constructors ≡ Some Ts
+pub data Constructs (c : Whole) (Ts : List CType) (T : CType) : Type 0 where
+  constructs : {w ds : _} → out-CType T ≡ CType-F.Param w ds → lookup (same_whole c) ds ≡ Some Ts → Constructs c Ts T
 
 -- a field of one label
 abbrev pub one_label : List ℕ × Pattern → PatternField Pattern

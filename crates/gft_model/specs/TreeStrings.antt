@@ -5,13 +5,14 @@ use Rattle.gft_core.specs.declared.symbol.Sym.{Sym}
 use Rattle.gft_core.specs.declared.tree.Tree.{Tree, out-Tree}
 use Rattle.gft_core.specs.declared.tree.Tree.TheOpen.{Tree-F}
 use Rattle.gft_syntax.specs.declared.flat.Flat.{Flat}
+use Rattle.gft_syntax.specs.declared.judgement.Keyword.TheVariants as K
 use Rattle.gft_syntax.specs.declared.value.Value.{Value}
 use Rattle.gft_syntax.specs.declared.value.Value.TheOpen.{Value-F}
 use Rattle.gft_syntax.specs.declared.value.Value.TheFolds.{fold-Value}
 use Rattle.gft_model.specs.Brackets.{Piece, erased}
 use Rattle.gft_model.specs.ConcreteTypes.{field_of}
 use Rattle.gft_model.specs.JudgementTyping.{signature_in}
-use Rattle.gft_model.specs.Languages.{typed_at, is_linref, outcomes_on}
+use Rattle.gft_model.specs.Languages.{typed_at, outcomes_on}
 use Rattle.gft_model.specs.Outcomes.{Outcome, gives, given}
 use Rattle.gft_model.specs.TreeValues.{BracketedValue, bracketed_values, closed_parts, replaced}
 use Rattle.gft_model.specs.Values.{leaves_step, string_leaves}
@@ -29,7 +30,7 @@ first_string v = slice_get (fold-Value (List (List Sym)) string_step v) 0
 
 -- the outcomes of linref of category C on a value: without linref its first string, and no words where it has none
 abbrev pub string_outcomes : Flat → List ℕ → List ℕ → Value → List Outcome
-string_outcomes flat lang C v = option_map_or (λ t. outcomes_on flat t.term (v ∷ [])) (typed_at flat (is_linref lang C))
+string_outcomes flat lang C v = option_map_or (λ t. outcomes_on flat t.term (v ∷ [])) (typed_at flat K.Linref lang C)
     (gives (string_value (unwrap_or (first_string v) [])) ∷ [])
 
 -- the category of a tree: that of its head, or the one that is handed in for a hole

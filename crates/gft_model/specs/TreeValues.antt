@@ -11,12 +11,13 @@ use Rattle.gft_syntax.specs.declared.ctype.CType.{CType}
 use Rattle.gft_syntax.specs.declared.ctype.CType.TheOpen.{CType-F}
 use Rattle.gft_syntax.specs.declared.ctype.CType.TheFolds.{para-CType}
 use Rattle.gft_syntax.specs.declared.flat.Flat.{Flat}
+use Rattle.gft_syntax.specs.declared.judgement.Keyword.TheVariants as K
 use Rattle.gft_syntax.specs.declared.value.Value.{Value}
 use Rattle.gft_syntax.specs.declared.value.Value.TheOpen.{Value-F}
 use Rattle.gft_syntax.specs.declared.value.Value.TheFolds.{fold-Value}
 use Rattle.gft_model.specs.Brackets.{Mark, grammar, integer, text, Piece, word, bracketed}
 use Rattle.gft_model.specs.ConcreteTypes.{upto, choices, field_choices, values_of, layer_values}
-use Rattle.gft_model.specs.Languages.{typed_at, is_lindef, lin_type, outcomes_on, arguments_of, lin_outcomes}
+use Rattle.gft_model.specs.Languages.{typed_at, lin_type, outcomes_on, arguments_of, lin_outcomes}
 use Rattle.gft_model.specs.Outcomes.{Outcome, gives, given}
 use Rattle.gft_model.specs.Values.{string_leaves}
 use Rattle.gft_model.specs.ValueForms.{string_value, param_value, number_param, record_value, table_value}
@@ -91,7 +92,7 @@ hole_part n = record { value = string_value (Arg 0 0 ∷ []); strings = (word gr
 -- the outcomes for a hole of category C: its lindef on the closed part, else the value of the first case
 abbrev pub hole_outcomes : Flat → List ℕ → List ℕ → List Outcome
 hole_outcomes flat lang C = option_map_or (λ t. outcomes_on flat t.term (string_value (Arg 0 0 ∷ []) ∷ []))
-    (typed_at flat (is_lindef lang C)) (option_map_or (λ T. map gives (take 1 (values_by_case T))) (lin_type flat lang C) [])
+    (typed_at flat K.Lindef lang C) (option_map_or (λ T. map gives (take 1 (values_by_case T))) (lin_type flat lang C) [])
 
 -- the values of a tree at a position, where it is of a category
 abbrev pub AtPosition : Type 0

@@ -1,5 +1,6 @@
 -- Concrete types, terms and typed terms as typing makes them, form by form.
-use Rattle.std.specs.Prelude.{ℕ, suc, List, [], ◌∷◌, ◌++◌, map, flat_map, Option, Some, None, bytes_eq, codes, if◌then◌else◌}
+use Rattle.std.specs.Prelude.{ℕ, List, [], ◌∷◌, map, flat_map, Option, Some, None, bytes_eq, codes}
+use Rattle.std.specs.Map.{keys_of, lookup}
 use Rattle.gft_core.specs.declared.place.Place.{Place}
 use Rattle.gft_syntax.specs.declared.bind.Bind.{Bind}
 use Rattle.gft_syntax.specs.declared.bind.Bind.TheVariants.{Variable, Nothing}
@@ -101,16 +102,14 @@ abbrev pub bound_pattern : Bind → Pattern
 bound_pattern (Variable x place) = roll-Pattern (Pattern-F.Name (Written x) place)
 bound_pattern (Nothing place) = roll-Pattern (Pattern-F.Any place)
 
--- a constructor as a function of its arguments; the labels of a tuple serve as its variables
-abbrev pub constructor_after : ℕ → List CType → List LinTerm → Whole → LinTerm
-constructor_after n [] vs w = made (Lin-F.Con w vs)
-constructor_after n (T ∷ Ts) vs w =
-    let x = tuple_label n in
-    made (Lin-F.Lambda (Some x) (constructor_after (suc n) Ts (vs ++ made (Lin-F.Var x) ∷ []) w))
+-- a function of the variables in turn
+abbrev pub lambdas : List (List ℕ) → LinTerm → LinTerm
+lambdas [] t = t
+lambdas (x ∷ xs) t = made (Lin-F.Lambda (Some x) (lambdas xs t))
 
--- a constructor as a function
+-- a constructor as a function of its arguments; the labels of a tuple serve as its variables
 abbrev pub constructor_term : List CType → Whole → LinTerm
-constructor_term Ts w = constructor_after 0 Ts [] w
+constructor_term Ts w = let xs = keys_of (tuple_fields Ts) in lambdas xs (made (Lin-F.Con w (map (λ x. made (Lin-F.Var x)) xs)))
 
 -- the greatest number
 abbrev pub greatest : ℕ
@@ -125,11 +124,8 @@ abbrev pub predef_term : Predef → Place → LinTerm
 predef_term p place =
     let n = tuple_label 0 in
     let s = tuple_label 1 in
-    made (Lin-F.Lambda (Some n) (made (Lin-F.Lambda (Some s)
-    (made (Lin-F.Predef p (made (Lin-F.Var n)) (made (Lin-F.Var s)) place)))))
+    lambdas (n ∷ s ∷ []) (made (Lin-F.Predef p (made (Lin-F.Var n)) (made (Lin-F.Var s)) place))
 
 -- the names of these functions
 abbrev pub predef_named : List ℕ → Option Predef
-predef_named x =
-    if bytes_eq x (codes "take") then Some Take else if bytes_eq x (codes "drop") then Some Drop
-    else if bytes_eq x (codes "tk") then Some Tk else if bytes_eq x (codes "dp") then Some Dp else None
+predef_named x = lookup (bytes_eq x) ((codes "take", Take) ∷ (codes "drop", Drop) ∷ (codes "tk", Tk) ∷ (codes "dp", Dp) ∷ [])

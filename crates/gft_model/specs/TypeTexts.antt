@@ -1,5 +1,6 @@
 -- How refusals write concrete types and parameter values: without the names of modules.
 use Rattle.std.specs.Prelude.{ℕ, List, [], ◌∷◌, ◌++◌, flat_map, Bool, true, false, codes, decimal, if◌then◌else◌}
+use Rattle.std.specs.List.{join_by}
 use Rattle.gft_syntax.specs.declared.ctype.CType.{CType}
 use Rattle.gft_syntax.specs.declared.ctype.CType.TheOpen.{CType-F}
 use Rattle.gft_syntax.specs.declared.ctype.CType.TheFolds.{fold-CType}
@@ -22,13 +23,8 @@ abbrev pub in_parentheses : Written → List ℕ
 in_parentheses w = if w.is_wide then codes "(" ++ w.text ++ codes ")" else w.text
 
 -- fields in braces with semicolons between
-abbrev pub later_fields : List ℕ → List (List ℕ × Written) → List ℕ
-later_fields sign [] = codes "}"
-later_fields sign (f ∷ fs) = codes " ; " ++ f.0 ++ sign ++ f.1.text ++ later_fields sign fs
-
 abbrev pub field_texts : List ℕ → List (List ℕ × Written) → List ℕ
-field_texts sign [] = codes "{}"
-field_texts sign (f ∷ fs) = codes "{" ++ f.0 ++ sign ++ f.1.text ++ later_fields sign fs
+field_texts sign fs = codes "{" ++ join_by (λ f. f.0 ++ sign ++ f.1.text) (codes " ; ") fs ++ codes "}"
 
 abbrev pub type_step : CType-F Written → Written
 type_step CType-F.Str = narrow (codes "Str")
