@@ -1,6 +1,6 @@
 -- Worked examples of refusals of characters and slices.
 use Rattle.std.proofs.Common.{◌≡◌, ℕ, zero, suc, true, List, [], ◌∷◌, ◌++◌, refl, ◌⊎◌, inl, inr, ap, sym, ◌∙◌, subst, arith}
-use Rattle.std.specs.Prelude.{codes, ◌≤◌, drop, Some, None}
+use Rattle.std.specs.Prelude.{Contains, codes, ◌≤◌, drop, Some, None}
 use Rattle.std.specs.Str.{chars, is_utf8}
 use Rattle.std.specs.Str.Lossy.{utf8_valid_len}
 use lib.Utf8
@@ -34,9 +34,21 @@ abbrev at : ℕ → TokenForm → SourceToken
 at col form = record { form = form; place = here 1 col }
 
 -- "a without a closing quote
+further : (xs : List ℕ) (y x : ℕ) → Contains xs x → Contains (y ∷ xs) x
+further xs y x (k, h, e) = (suc k, omega (arith, h), e)
+
+within : {p q : Place} {cs ds : List ℕ} → TokenFaults.Inside p cs q ds → (x : ℕ) → Contains ds x → Contains cs x
+within TokenFaults.here x c = c
+within (TokenFaults.plain {cs} {c} i j k r) x d = further cs c x (within r x d)
+within (TokenFaults.escape {cs} {c} i r) x d = further (c ∷ cs) 92 x (further cs c x (within r x d))
+
+no_quote : Contains (codes "a") 34 → ⊥
+no_quote (zero, h, e) = omega (arith, e)
+no_quote (suc k, h, e) = omega (arith, h)
+
 pub not_closed : TokenFaults.BreaksTokens 0 (34 ∷ codes "a") (refusal R.OpenString (here 1 1) [])
 unfolding chars lib.Utf8.encode utf8_valid_len is_utf8
-not_closed = TokenFaults.open_string TokenFaults.at_start refl
+not_closed = TokenFaults.open_string TokenFaults.at_start (λ closed. no_quote (within closed.2 34 (0, omega arith, refl)))
 
 -- in a file that is one semicolon nothing is broken
 abbrev semicolon : List ℕ

@@ -1,5 +1,5 @@
 -- A file that has tokens has no fault of its characters.
-use Rattle.std.proofs.Common.{◌≡◌, refl, sym, ap, ◌∙◌, subst, append_assoc, ℕ, zero, suc, ◌+◌, ◌-◌, ◌^◌, ◌<◌, ◌≤◌, List, [], ◌∷◌, ◌++◌, Bool, true, false, arith, length, ⊎_elim, inl, inr, ◌⊎◌}
+use Rattle.std.proofs.Common.{◌≡◌, ◌≢◌, refl, sym, ap, ◌∙◌, subst, append_assoc, ℕ, zero, suc, ◌+◌, ◌-◌, ◌^◌, ◌<◌, ◌≤◌, List, [], ◌∷◌, ◌++◌, Bool, true, false, arith, length, ⊎_elim}
 use Rattle.std.proofs.Math.Seq.{take-length, drop-length}
 use Rattle.std.proofs.Math.Utf8.{scalar, scalars, scalar_cases}
 use Rattle.std.proofs.lemmas.Bool.{ltb-true}
@@ -8,14 +8,14 @@ use Rattle.std.proofs.lemmas.Str.{scalars-chars, utf8_valid_len-IsUtf8}
 use Rattle.std.specs.Char.{is_whitespace}
 use Rattle.std.specs.Cmp.{unsigned_Decides}
 use Rattle.std.specs.List.{list_all}
-use Rattle.std.specs.Prelude.{⊤, ◌==◌, ◌&&◌, ◌||◌, map, take, drop, chars, Contains, IsUtf8, Option, Some, None, option_map, option_and_then, nat_lt, encode_utf8_all, if◌then◌else◌}
+use Rattle.std.specs.Prelude.{⊤, ◌==◌, ◌&&◌, ◌||◌, map, take, drop, chars, IsUtf8, Option, Some, None, option_map, option_and_then, nat_lt, encode_utf8_all, if◌then◌else◌}
 use Rattle.gft_core.specs.declared.place.Place.{Place}
 use Rattle.gft_rules.specs.declared.refusal.Refusal.{Refusal}
 use Rattle.gft_syntax.specs.declared.token.SourceToken.{SourceToken}
 use Rattle.gft_syntax.specs.declared.token.TokenForm.{TokenForm}
 use Rattle.gft_syntax.specs.declared.token.TokenForm.TheVariants.{Quoted, Number}
 use Rattle.gft_model.specs.Source.{Tokens, Lexeme, blank, token, nothing, lexeme_at, longest, longest_from, form_of, token_lexeme, block_lexeme, block_length, line_length, escaped, quoted_text, escape_text, tokens_from, in_range, after, first_place}
-use Rattle.gft_model.specs.TokenFaults.{BreaksTokens, Begins, at_start, after_lexeme, not_utf8, bad_character, open_string, bad_escape, open_comment, number_too_large, text_of, loose, moved, length_of, is_closed, is_closed_after, escapes_from}
+use Rattle.gft_model.specs.TokenFaults.{BreaksTokens, Begins, at_start, after_lexeme, not_utf8, bad_character, open_string, bad_escape, open_comment, number_too_large, text_of, loose, moved, length_of, Inside, here, plain, escape, IsClosed}
 
 true_of_and : (a b : Bool) → (a && b) ≡ true → (a ≡ true) × (b ≡ true)
 true_of_and true b e = (refl, e)
@@ -234,92 +234,94 @@ quoted_as a b d c cs =
       ]
     ]
 
-abbrev closed_as : Bool → Bool → Bool → List ℕ → Bool
-closed_as a b d cs = elim a [ true ↦ is_closed_after cs | false ↦ elim (b || d) [ true ↦ b | false ↦ is_closed cs ] ]
-
 of_map : (c : ℕ) (o : Option (List ℕ)) (t : List ℕ) → option_map (λ rest. c ∷ rest) o ≡ Some t → (s : List ℕ) × (o ≡ Some s)
 of_map c None t e = let wrong : None ≡ Some t = e in cc
 of_map c (Some s) t e = (s, refl)
 
-closed_by : (a b d : Bool) (c : ℕ) (xs ys t : List ℕ)
-    → ((s : List ℕ) → escape_text xs ≡ Some s → is_closed_after (xs ++ ys) ≡ true)
-    → ((s : List ℕ) → quoted_text xs ≡ Some s → is_closed (xs ++ ys) ≡ true) → quoted_as a b d c xs ≡ Some t
-    → closed_as a b d (xs ++ ys) ≡ true
-closed_by true b d c xs ys t f g e = f t e
-closed_by false true d c xs ys t f g e = refl
-closed_by false false true c xs ys t f g e = let wrong : None ≡ Some t = e in cc
-closed_by false false false c xs ys t f g e = let s = of_map c (quoted_text xs) t e in g s.0 s.1
-
-of_escape : (c : ℕ) (o : Option ℕ) (xs t : List ℕ)
+of_escape : (o : Option ℕ) (xs t : List ℕ)
     → option_and_then (λ d. option_map (λ rest. d ∷ rest) (quoted_text xs)) o ≡ Some t
     → (d : ℕ) × (o ≡ Some d) × (s : List ℕ) × (quoted_text xs ≡ Some s)
-of_escape c None xs t e = let wrong : None ≡ Some t = e in cc
-of_escape c (Some d) xs t e = let s = of_map d (quoted_text xs) t e in (d, refl, s.0, s.1)
+of_escape None xs t e = let wrong : None ≡ Some t = e in cc
+of_escape (Some d) xs t e = let s = of_map d (quoted_text xs) t e in (d, refl, s.0, s.1)
 
-after_by : (a : Bool) (c : ℕ) (xs ys : List ℕ) (d : ℕ) → (c == 10) ≡ a → escaped c ≡ Some d → is_closed (xs ++ ys) ≡ true
-    → (elim a [ true ↦ false | false ↦ is_closed (xs ++ ys) ]) ≡ true
-after_by true c xs ys d h e k =
-    let wrong : None ≡ Some d = sym (ap escaped ((unsigned_Decides c 10).0 h)) ∙ e in cc
-after_by false c xs ys d h e k = k
+is_that : (c k : ℕ) → (c == k) ≡ true → c ≡ k
+is_that c k h = (unsigned_Decides c k).0 h
+
+is_other : (c k : ℕ) → (c == k) ≡ false → c ≢ k
+is_other c k h e = let wrong : false ≡ true = sym h ∙ (unsigned_Decides c k).1 e in cc
+
+no_newline : (c d : ℕ) → escaped c ≡ Some d → c ≢ 10
+no_newline c d e h = let wrong : None ≡ Some d = sym (ap escaped h) ∙ e in cc
+
+abbrev Closed : List ℕ → Type 0
+Closed cs = (p : Place) → IsClosed p cs
+
+closed_by : (a b d : Bool) (c : ℕ) (xs ys t : List ℕ) → (c == 92) ≡ a → (c == 34) ≡ b → (c == 10) ≡ d
+    → ((s : List ℕ) → escape_text xs ≡ Some s → Closed (92 ∷ xs ++ ys))
+    → ((s : List ℕ) → quoted_text xs ≡ Some s → Closed (xs ++ ys)) → quoted_as a b d c xs ≡ Some t → Closed (c ∷ xs ++ ys)
+closed_by true b d c xs ys t h i j f g e = subst (λ k. Closed (k ∷ xs ++ ys)) (sym (is_that c 92 h)) (f t e)
+closed_by false true d c xs ys t h i j f g e =
+    subst (λ k. Closed (k ∷ xs ++ ys)) (sym (is_that c 34 i)) (λ p. (p, xs ++ ys, here))
+closed_by false false true c xs ys t h i j f g e = let wrong : None ≡ Some t = e in cc
+closed_by false false false c xs ys t h i j f g e = λ p.
+    let s = of_map c (quoted_text xs) t e in
+    let rest = g s.0 s.1 (after c p) in
+    (rest.0, rest.1, plain (is_other c 92 h) (is_other c 34 i) (is_other c 10 j) rest.2)
 
 mutual
-  closed_if : (xs ys t : List ℕ) → quoted_text xs ≡ Some t → is_closed (xs ++ ys) ≡ true
+  closed_if : (xs ys t : List ℕ) → quoted_text xs ≡ Some t → Closed (xs ++ ys)
   closed_if [] ys t e = let wrong : None ≡ Some t = e in cc
-  closed_if (c ∷ xs) ys t e = closed_by (c == 92) (c == 34) (c == 10) c xs ys t (closed_escape xs ys) (closed_if xs ys) e
+  closed_if (c ∷ xs) ys t e =
+      closed_by (c == 92) (c == 34) (c == 10) c xs ys t refl refl refl (closed_escape xs ys) (closed_if xs ys) e
 
-  closed_escape : (xs ys t : List ℕ) → escape_text xs ≡ Some t → is_closed_after (xs ++ ys) ≡ true
+  closed_escape : (xs ys t : List ℕ) → escape_text xs ≡ Some t → Closed (92 ∷ xs ++ ys)
   closed_escape [] ys t e = let wrong : None ≡ Some t = e in cc
-  closed_escape (c ∷ xs) ys t e =
-      let parts = of_escape c (escaped c) xs t e in
-      after_by (c == 10) c xs ys parts.0 refl parts.1 (closed_if xs ys parts.2 parts.3)
+  closed_escape (c ∷ xs) ys t e = λ p.
+      let parts = of_escape (escaped c) xs t e in
+      let rest = closed_if xs ys parts.2 parts.3 (after c (after 92 p)) in
+      (rest.0, rest.1, escape (no_newline c parts.0 parts.1) rest.2)
 
 -- and its escapes are escapes
-abbrev escapes_as : Bool → Bool → Place → ℕ → ℕ → List ℕ → List (Place × ℕ)
-escapes_as a b p c d cs =
-    elim a [
-      | true ↦ (p, d) ∷ escapes_from (after d (after c p)) cs
-      | false ↦ elim b [ true ↦ [] | false ↦ escapes_from (after c p) (d ∷ cs) ]
-    ]
+plain_by : (a b d : Bool) (c : ℕ) (xs t : List ℕ) → (c == 92) ≡ a → (c == 34) ≡ b → (c == 10) ≡ d
+    → c ≢ 92 → c ≢ 34 → c ≢ 10 → quoted_as a b d c xs ≡ Some t → (s : List ℕ) × (quoted_text xs ≡ Some s)
+plain_by true b d c xs t h i j k l m e = absurd (k (is_that c 92 h))
+plain_by false true d c xs t h i j k l m e = absurd (l (is_that c 34 i))
+plain_by false false true c xs t h i j k l m e = absurd (m (is_that c 10 j))
+plain_by false false false c xs t h i j k l m e = of_map c (quoted_text xs) t e
 
-nothing_in : (q : Place) (k : ℕ) → Contains {X = Place × ℕ} [] (q, k) → ⊥
-nothing_in q k (i, h, e) = omega (arith, h)
+after_plain : (c : ℕ) (xs t : List ℕ) → c ≢ 92 → c ≢ 34 → c ≢ 10 → quoted_text (c ∷ xs) ≡ Some t
+    → (s : List ℕ) × (quoted_text xs ≡ Some s)
+after_plain c xs t k l m e = plain_by (c == 92) (c == 34) (c == 10) c xs t refl refl refl k l m e
 
-one_char : (a b d : Bool) (p q : Place) (c k e : ℕ) (ys t : List ℕ) → quoted_as a b d c [] ≡ Some t
-    → Contains (escapes_as a b p c e ys) (q, k) → ⊥
-one_char true b d p q c k e ys t f h = let wrong : None ≡ Some t = f in cc
-one_char false true d p q c k e ys t f h = nothing_in q k h
-one_char false false true p q c k e ys t f h = let wrong : None ≡ Some t = f in cc
-one_char false false false p q c k e ys t f h = let wrong : None ≡ Some t = f in cc
+after_escape : (c d : ℕ) (xs t : List ℕ) → c ≡ 92 → quoted_text (c ∷ d ∷ xs) ≡ Some t
+    → (e : ℕ) × (escaped d ≡ Some e) × (s : List ℕ) × (quoted_text xs ≡ Some s)
+after_escape c d xs t h e =
+    of_escape (escaped d) xs t (subst (λ k. quoted_text (k ∷ d ∷ xs) ≡ Some t) h e)
 
-first_escape : (p q : Place) (d k : ℕ) (rest : List (Place × ℕ)) → Contains ((p, d) ∷ rest) (q, k)
-    → (d ≡ k) ⊎ Contains rest (q, k)
-first_escape p q d k rest (zero, h, e) = inl (ap (λ (x : Place × ℕ). x.1) e)
-first_escape p q d k rest (suc i, h, e) = inr (i, omega (arith, h), e)
+not_alone : (c : ℕ) (t : List ℕ) → c ≡ 92 → quoted_text (c ∷ []) ≡ Some t → ⊥
+not_alone c t h e = let wrong : None ≡ Some t = subst (λ k. quoted_text (k ∷ []) ≡ Some t) h e in cc
 
-two_chars : (a b f : Bool) (p q : Place) (c k d : ℕ) (xs ys t : List ℕ)
-    → ((r : Place) (s : List ℕ) → quoted_text xs ≡ Some s → Contains (escapes_from r (xs ++ ys)) (q, k)
-    → escaped k ≡ None → ⊥)
-    → ((r : Place) (s : List ℕ) → quoted_text (d ∷ xs) ≡ Some s → Contains (escapes_from r (d ∷ xs ++ ys)) (q, k)
-    → escaped k ≡ None → ⊥)
-    → quoted_as a b f c (d ∷ xs) ≡ Some t → Contains (escapes_as a b p c d (xs ++ ys)) (q, k) → escaped k ≡ None → ⊥
-two_chars true b f p q c k d xs ys t far near e h n =
-    let parts = of_escape d (escaped d) xs t e in
-    ⊎_elim {C = ⊥} (λ same. let wrong : None ≡ Some parts.0 = sym n ∙ sym (ap escaped same) ∙ parts.1 in cc)
-    (λ rest. far (after d (after c p)) parts.2 parts.3 rest n)
-    (first_escape p q d k (escapes_from (after d (after c p)) (xs ++ ys)) h)
-two_chars false true f p q c k d xs ys t far near e h n = nothing_in q k h
-two_chars false false true p q c k d xs ys t far near e h n = let wrong : None ≡ Some t = e in cc
-two_chars false false false p q c k d xs ys t far near e h n =
-    let s = of_map c (quoted_text (d ∷ xs)) t e in near (after c p) s.0 s.1 h n
-
-escapes_good : (p q : Place) (k : ℕ) (xs ys t : List ℕ) → quoted_text xs ≡ Some t → Contains (escapes_from p (xs ++ ys)) (q, k)
-    → escaped k ≡ None → ⊥
-escapes_good p q k [] ys t e h n = let wrong : None ≡ Some t = e in cc
-escapes_good p q k (c ∷ []) [] t e h n = nothing_in q k h
-escapes_good p q k (c ∷ []) (d ∷ ys) t e h n = one_char (c == 92) (c == 34) (c == 10) p q c k d ys t e h
-escapes_good p q k (c ∷ d ∷ xs) ys t e h n =
-    two_chars (c == 92) (c == 34) (c == 10) p q c k d xs ys t (λ r s. escapes_good r q k xs ys s)
-    (λ r s. escapes_good r q k (d ∷ xs) ys s) e h n
+escapes_good : (xs ys t : List ℕ) → quoted_text xs ≡ Some t → (p q : Place) (es fs : List ℕ) → Inside p es q fs → es ≡ xs ++ ys
+    → (k : ℕ) (ds : List ℕ) → fs ≡ 92 ∷ k ∷ ds → escaped k ≡ None → ⊥
+escapes_good [] ys t e p q es fs i h k ds f n = let wrong : None ≡ Some t = e in cc
+escapes_good (c ∷ []) ys t e p q es fs here h k ds f n = not_alone c t (cc) e
+escapes_good (c ∷ d ∷ xs) ys t e p q es fs here h k ds f n =
+    let same : c ∷ d ∷ xs ++ ys ≡ 92 ∷ k ∷ ds = sym h ∙ f in
+    let first : c ≡ 92 = cc in
+    let second : d ≡ k = cc in
+    let parts = after_escape c d xs t first e in
+    let wrong : None ≡ Some parts.0 = sym n ∙ sym (ap escaped second) ∙ parts.1 in cc
+escapes_good (x ∷ xs) ys t e p q es fs (plain {cs} {c} i j l rest) h k ds f n =
+    let first : c ≡ x = cc in
+    let others : cs ≡ xs ++ ys = cc in
+    let s = after_plain c xs t i j l (subst (λ z. quoted_text (z ∷ xs) ≡ Some t) (sym first) e) in
+    escapes_good xs ys s.0 s.1 (after c p) q cs fs rest others k ds f n
+escapes_good (x ∷ []) ys t e p q es fs (escape i rest) h k ds f n = not_alone x t (cc) e
+escapes_good (x ∷ y ∷ xs) ys t e p q es fs (escape {cs} {c} i rest) h k ds f n =
+    let first : x ≡ 92 = cc in
+    let others : cs ≡ xs ++ ys = cc in
+    let parts = after_escape x y xs t first e in
+    escapes_good xs ys parts.2 parts.3 (after c (after 92 p)) q cs fs rest others k ds f n
 
 none_or : {A : Type 0} (o : Option A) → ((t : A) → o ≡ Some t → ⊥) → o ≡ None
 none_or None n = refl
@@ -344,13 +346,12 @@ tokens_apart {bytes} t (not_utf8 before rest c e h) =
     subst (λ x. scalars x ≡ true) (sym (text_is bytes t.is_text) ∙ e) (scalars-chars bytes t.is_text) in
     omega (arith, h, in_text before c rest is)
 tokens_apart t (bad_character {p} {c} {cs} b e w n h) = nowhere p c cs (good_of t b) (no_lexeme c cs e w)
-tokens_apart t (open_string {p} {cs} b e) =
-    let none = quoted_longest [] cs (λ xs ys h. none_or (quoted_text xs) (λ s f.
-    let closed = closed_if xs ys s f in let wrong : false ≡ true = sym e ∙ ap is_closed h ∙ closed in cc)) in
+tokens_apart t (open_string {p} {cs} b n) =
+    let none = quoted_longest [] cs (λ xs ys h. none_or (quoted_text xs)
+    (λ s f. n (subst (λ x. IsClosed (after 34 p) x) (sym h) (closed_if xs ys s f (after 34 p))))) in
     nowhere p 34 cs (good_of t b) (quoted_lexeme cs none)
-tokens_apart t (bad_escape {p} {q} {c} {cs} b e k n h) =
-    let none = quoted_longest [] cs (λ xs ys f. none_or (quoted_text xs) (λ s g.
-    escapes_good (after 34 p) q c xs ys s g (subst (λ x. Contains (escapes_from (after 34 p) x) (q, c)) f k) n)) in
+tokens_apart t (bad_escape {p} {q} {c} {cs} {ds} b closed i n h) =
+    let none = quoted_longest [] cs (λ xs ys f. none_or (quoted_text xs) (λ s g. escapes_good xs ys s g (after 34 p) q cs _ i f c ds refl n)) in
     nowhere p 34 cs (good_of t b) (quoted_lexeme cs none)
 tokens_apart t (open_comment {p} {cs} b e) = nowhere p 123 (45 ∷ cs) (good_of t b) (ap block_lexeme e)
 tokens_apart t (number_too_large {p} {n} {k} {cs} {s} b e h) = large p cs (good_of t b) e h

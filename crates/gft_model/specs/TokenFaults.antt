@@ -1,5 +1,5 @@
 -- Faults of a file's characters: where something is neither white space, nor a comment, nor a token.
-use Rattle.std.specs.Prelude.{◌≡◌, ℕ, zero, suc, ◌+◌, ◌^◌, ◌<◌, ◌≤◌, List, [], ◌∷◌, ◌++◌, map, take, drop, length, Bool, true, false, ◌==◌, ◌||◌, nat_lt, chars, encode_utf8_all, Option, Some, None, Contains, if◌then◌else◌, ◌≢◌}
+use Rattle.std.specs.Prelude.{◌≡◌, ℕ, zero, suc, ◌+◌, ◌^◌, ◌<◌, ◌≤◌, List, [], ◌∷◌, ◌++◌, map, take, drop, length, false, nat_lt, chars, encode_utf8_all, Option, Some, None, if◌then◌else◌, ◌≢◌}
 use Rattle.std.specs.Char.{is_whitespace}
 use Rattle.std.specs.Str.Lossy.{utf8_valid_len}
 use Rattle.gft_core.specs.declared.place.Place.{Place}
@@ -38,26 +38,16 @@ pub data Begins (file : ℕ) (text : List ℕ) : Place → List ℕ → Type 0 w
   after_lexeme : {p cs n : _} → Begins file text p cs → length_of (lexeme_at cs) ≡ Some n →
       Begins file text (moved n p cs) (drop n cs)
 
--- whether a text after its opening quote is closed on its line; a backslash goes with what is after it
-abbrev mutual
-  pub is_closed : List ℕ → Bool
-  is_closed [] = false
-  is_closed (c ∷ cs) =
-      elim (c == 92) [ true ↦ is_closed_after cs | false ↦ elim (c == 34 || c == 10) [ true ↦ c == 34 | false ↦ is_closed cs ] ]
+-- in a text one comes from the first place to the second, past no quote and no end of the line; a backslash goes with what
+-- is after it
+pub data Inside : Place → List ℕ → Place → List ℕ → Type 0 where
+  here : {p cs : _} → Inside p cs p cs
+  plain : {p q cs ds : _} {c : ℕ} → c ≢ 92 → c ≢ 34 → c ≢ 10 → Inside (after c p) cs q ds → Inside p (c ∷ cs) q ds
+  escape : {p q cs ds : _} {c : ℕ} → c ≢ 10 → Inside (after c (after 92 p)) cs q ds → Inside p (92 ∷ c ∷ cs) q ds
 
-  pub is_closed_after : List ℕ → Bool
-  is_closed_after [] = false
-  is_closed_after (c ∷ cs) = elim (c == 10) [ true ↦ false | false ↦ is_closed cs ]
-
--- the backslashes of a text up to its closing quote, each with the character after it
-abbrev pub escapes_from : Place → List ℕ → List (Place × ℕ)
-escapes_from p [] = []
-escapes_from p (c ∷ []) = []
-escapes_from p (c ∷ d ∷ cs) =
-    elim (c == 92) [
-      | true ↦ (p, d) ∷ escapes_from (after d (after c p)) cs
-      | false ↦ elim (c == 34) [ true ↦ [] | false ↦ escapes_from (after c p) (d ∷ cs) ]
-    ]
+-- a text is closed on its line
+abbrev pub IsClosed : Place → List ℕ → Type 0
+IsClosed p cs = (q : Place) × (ds : List ℕ) × Inside p cs q (34 ∷ ds)
 
 -- what is broken in a file's characters; the earliest place counts
 pub data BreaksTokens (file : ℕ) (bytes : List ℕ) : Refusal → Type 0 where
@@ -65,10 +55,10 @@ pub data BreaksTokens (file : ℕ) (bytes : List ℕ) : Refusal → Type 0 where
       BreaksTokens file bytes (refusal R.NotUtf8 (moved (length before) (first_place file) (text_of bytes)) [])
   bad_character : {p c cs : _} → Begins file (text_of bytes) p (c ∷ cs) → longest (c ∷ cs) ≡ None → is_whitespace c ≡ false →
       c ≢ 34 → c < no_character → BreaksTokens file bytes (refusal R.BadCharacter p (encode_utf8_all (c ∷ []) ∷ []))
-  open_string : {p cs : _} → Begins file (text_of bytes) p (34 ∷ cs) → is_closed cs ≡ false →
+  open_string : {p cs : _} → Begins file (text_of bytes) p (34 ∷ cs) → ¬ (IsClosed (after 34 p) cs) →
       BreaksTokens file bytes (refusal R.OpenString p [])
-  bad_escape : {p q c cs : _} → Begins file (text_of bytes) p (34 ∷ cs) → is_closed cs ≡ true →
-      Contains (escapes_from (after 34 p) cs) (q, c) → escaped c ≡ None → c < no_character →
+  bad_escape : {p q c cs ds : _} → Begins file (text_of bytes) p (34 ∷ cs) → IsClosed (after 34 p) cs →
+      Inside (after 34 p) cs q (92 ∷ c ∷ ds) → escaped c ≡ None → c < no_character →
       BreaksTokens file bytes (refusal R.BadEscape q (encode_utf8_all (c ∷ []) ∷ []))
   open_comment : {p cs : _} → Begins file (text_of bytes) p (123 ∷ 45 ∷ cs) → block_length cs ≡ None →
       BreaksTokens file bytes (refusal R.OpenComment p [])
