@@ -1,17 +1,20 @@
 -- A worked example of a fault of types: a table over N = One | Two that leaves out Two, at 3:23 of ExhEng.gf.
-use Rattle.std.proofs.Common.{◌≡◌, ap, refl, ℕ, List, [], ◌∷◌, None, Some, subst, inl, inr, arith}
+use Rattle.std.proofs.Common.{zero, suc, ◌≡◌, ap, refl, ℕ, List, [], ◌∷◌, None, Some, subst, inl, inr, arith}
 use Rattle.std.specs.Prelude.{codes}
 use Rattle.gft_core.specs.declared.place.Place.{Place}
 use Rattle.gft_rules.specs.declared.rule.Rule.TheVariants as R
-use Rattle.gft_syntax.specs.declared.ctype.CType.{CType, roll-CType}
+use Rattle.gft_syntax.specs.declared.ctype.CType.{CType, out-CType, roll-CType}
 use Rattle.gft_syntax.specs.declared.ctype.CType.TheOpen as C
 use Rattle.gft_syntax.specs.declared.ctype.CType.TheFolds.{fold-roll-CType}
 use Rattle.gft_syntax.specs.declared.ctype.CType.TheViews.{out-roll-CType}
 use Rattle.gft_syntax.specs.declared.flat.Flat.{Flat}
+use Rattle.gft_syntax.specs.declared.judgement.Alternative.{Alternative}
 use Rattle.gft_syntax.specs.declared.judgement.Constructor.{Constructor}
 use Rattle.gft_syntax.specs.declared.judgement.Definition.TheVariants as D
 use Rattle.gft_syntax.specs.declared.judgement.Judgement.{Judgement}
 use Rattle.gft_syntax.specs.declared.judgement.Judgement.TheVariants as J
+use Rattle.gft_syntax.specs.declared.linear.LinTerm.{LinTerm}
+use Rattle.gft_syntax.specs.declared.linear.LinTerm.TheOpen as L
 use Rattle.gft_syntax.specs.declared.pattern.Pattern.{Pattern, roll-Pattern}
 use Rattle.gft_syntax.specs.declared.pattern.Pattern.TheOpen as P
 use Rattle.gft_syntax.specs.declared.reference.PlacedName.{PlacedName}
@@ -26,14 +29,14 @@ use Rattle.gft_syntax.specs.declared.value.Param.{Param}
 use Rattle.gft_syntax.specs.declared.value.Param.TheViews.{out-roll-Param}
 use Rattle.gft_syntax.specs.declared.value.Param.TheFolds.{fold-roll-Param}
 use Rattle.gft_model.specs.ConcreteTypes.{count_of, values_of, table_in}
-use Rattle.gft_model.specs.ConcreteTyping.{IsType, IsParameter, IsDomain, text_type, table_over, parameters_named, parameter_of, no_constructor, constructor, no_argument}
+use Rattle.gft_model.specs.ConcreteTyping.{IsData, Checks, Suits, suits_by, takes_none, found, alternative_alone, same, passes, type_of_types, IsType, IsParameter, IsDomain, text_type, table_over, parameters_named, parameter_of, no_constructor, constructor, no_argument}
 use Rattle.gft_model.specs.Items.{items_of}
 use Rattle.gft_model.specs.JudgementTyping.{IsSort}
 use Rattle.gft_model.specs.Refusals.{refusal}
 use Rattle.gft_model.specs.TypeFaults
 use Rattle.gft_model.specs.TypeTexts.{Written, param_step, param_text}
 use Rattle.gft_syntax.specs.Terms.{place_of, layer_place}
-use Rattle.gft_model.specs.TypeForms.{form, str_type, table_type}
+use Rattle.gft_model.specs.TypeForms.{form, str_type, sort_type, table_type, made}
 use Rattle.gft_model.specs.TypingSites
 use Rattle.gft_model.specs.ValueForms.{con_param}
 use Rattle.gft_model.proofs.Computing.{form-roll, match-roll}
@@ -147,3 +150,45 @@ empty_table = roll-Term (T.TableOf None [] (here 4 11))
 
 pub no_branch_to_find : TypeFaults.BreaksTerm exh [] empty_table (TypingSites.over str_type) TypingSites.selected R.NoType []
 no_branch_to_find = TypeFaults.no_first_branch (ap (λ d. TypeFaults.empty_mode d (TypingSites.over str_type)) (form-roll _))
+
+-- oper f = overload {f : Type = Str} ; x : f: that oper is a Type and names none
+abbrev type_term_alone : Term
+type_term_alone = roll-Term (T.Sort Sort-V.TypeSort (here 2 23))
+
+abbrev f_alone : Alternative
+f_alone = record { names = codes "f" ∷ []; of_type = type_term_alone; value = str_term }
+
+abbrev f_term : Term
+f_term = roll-Term (T.Var (WholeName (whole (codes "f"))) (here 3 13))
+
+abbrev oper_x : Judgement
+oper_x = J.OperType (named (codes "x") ∷ []) f_term
+
+abbrev overloaded : Flat
+overloaded = record exh {
+  params = [];
+  opers = record { whole = whole (codes "f"); judgement = J.Oper (named (codes "f") ∷ []) [] (D.Overload (f_alone ∷ [])) }
+      ∷ record { whole = whole (codes "x"); judgement = oper_x } ∷ [];
+}
+
+sort_is_data : IsData sort_type
+sort_is_data A B e = let k = out-roll-CType C.TypeSort in cc
+
+only_one : (j : ℕ) (S : CType) (u : LinTerm) → Suits (items_of overloaded) (whole (codes "f")) [] [] j S u → j ≡ 0
+only_one zero S u s = refl
+only_one (suc zero) S u (suits_by a b c) = cc
+only_one (suc (suc j)) S u (suits_by a b c) = cc
+
+f_is_a_type : Checks (items_of overloaded) [] f_term sort_type (made (L.Oper 0))
+f_is_a_type = found (ap (λ d. passes d (out-CType sort_type)) (form-roll _))
+    (alternative_alone 0 (form-roll _) refl
+    (record { suits = suits_by refl (type_of_types (form-roll _)) (takes_none sort_is_data); alone = only_one })) same
+
+found_no_type : TypeFaults.BreaksTypes overloaded [] (whole (codes "x")) oper_x (1 ∷ []) (refusal R.Unknown (place_of f_term) (codes "f" ∷ []))
+found_no_type = TypeFaults.in_sites (TypeFaults.at_type (TypingSites.at_site 0 refl TypingSites.to_mode)
+    (TypeFaults.overload_is_no_type (form-roll _) refl f_is_a_type))
+
+pub overload_names_no_type : TypeFaults.BreaksTypes overloaded [] (whole (codes "x")) oper_x (1 ∷ []) (refusal R.Unknown (here 3 13) (codes "f" ∷ []))
+overload_names_no_type =
+    subst (λ p. TypeFaults.BreaksTypes overloaded [] (whole (codes "x")) oper_x (1 ∷ []) (refusal R.Unknown p (codes "f" ∷ [])))
+    (ap layer_place (out-roll-Term _)) found_no_type

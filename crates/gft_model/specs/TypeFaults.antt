@@ -24,7 +24,7 @@ use Rattle.gft_syntax.specs.declared.value.Param.{Param}
 use Rattle.gft_syntax.specs.Parts.{bind_place, is_value, local_names, pattern_place}
 use Rattle.gft_syntax.specs.Terms.{Layer, place_of}
 use Rattle.gft_model.specs.ConcreteTypes.{field_of, is_finite, count_of, values_of, record_in, table_in, function_in, IsSubtype}
-use Rattle.gft_model.specs.ConcreteTyping.{IsType, IsParameter, IsDomain, Fits, Checks, FindsAll, Suits, Stands, an_oper, passes, is_covered, most_values, patterns}
+use Rattle.gft_model.specs.ConcreteTyping.{IsType, IsParameter, IsDomain, Fits, Checks, FindsAll, Suits, Stands, an_oper, an_overload, passes, is_covered, most_values, patterns}
 use Rattle.gft_model.specs.Modules.{placed_names}
 use Rattle.gft_model.specs.Items.{bare_parameter}
 use Rattle.gft_model.specs.JudgementTyping.{items, IsSort}
@@ -104,6 +104,8 @@ module _ (flat : Flat) where
     undefined_type : {w : Whole} {k p t A : _} → form e ≡ T.Var (WholeName w) p →
         Stands (items flat) w (an_oper k (Some t) None) → IsType (items flat) t A → IsSort A →
         BreaksSort Γ e S R.Unknown (w.name ∷ [])
+    overload_is_no_type : {w : Whole} {p t : _} → form e ≡ T.Var (WholeName w) p → Stands (items flat) w an_overload →
+        Checks (items flat) Γ e S t → BreaksSort Γ e S R.Unknown (w.name ∷ [])
     form_of_no_type : {t : _} → Checks (items flat) Γ e S t → may_be_type (form e) ≡ false → BreaksSort Γ e S R.NoType []
     too_many_values : {A w p : _} → form e ≡ T.Var (WholeName w) p → IsParameter (items flat) w A → most_values < count_of A →
         BreaksSort Γ e S R.ParamTooLarge (type_text A ∷ [])
