@@ -1,5 +1,5 @@
 -- Worked examples of names that mean types: what fits PType, and [C].
-use Rattle.std.proofs.Common.{◌≡◌, refl, ap, ◌∙◌, ℕ, List, [], ◌∷◌, Some, None, arith}
+use Rattle.std.proofs.Common.{◌≡◌, refl, ap, ◌∙◌, ℕ, List, [], ◌∷◌, Some, None, inl, inr, arith}
 use Rattle.std.specs.Prelude.{codes}
 use Rattle.gft_core.specs.declared.place.Place.{Place}
 use Rattle.gft_syntax.specs.declared.ctype.CType.{CType, out-CType, roll-CType}
@@ -56,8 +56,11 @@ q_is = definition_named 1 (form-roll _) refl (λ p h. let k = form-roll (F.Var (
     (parameters_named (form-roll _) is_parameter (omega (arith, two_values)))
 
 pub q_fits : Checks both [] (name (codes "Q")) sort_param (made (L.Oper 1))
-q_fits = parameter_given (form-roll _) (untyped_oper 1 (form-roll _) refl (parameter_name (form-roll _) is_parameter)) q_is (out-roll-CType _)
+q_fits = parameter_given (form-roll _) (untyped_oper 1 (form-roll _) refl (parameter_name (form-roll _) is_parameter)) (inr q_is) (out-roll-CType _)
 
+-- so does ListC, however many values it has
+pub list_fits : Checks both [] (name (codes "ListC")) sort_param no_value
+list_fits = parameter_given (form-roll _) (parameter_name (form-roll _) is_parameter) (inl is_parameter) (out-roll-CType _)
 -- Ints 3 is a type and does not fit PType
 abbrev ints_three : Term
 ints_three = roll-Term (F.App (roll-Term (F.Sort Sort.Ints nowhere)) (roll-Term (F.Num 3 nowhere)) nowhere)

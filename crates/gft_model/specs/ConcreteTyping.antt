@@ -191,8 +191,8 @@ module _ (items : List Item) where
       variants_given : {Γ e es p T ts : _} → form e ≡ Term-F.Variants es p → MembersCheck Γ es T ts →
           Checks Γ e T (made (Lin-F.Variants ts))
       empty_type : {Γ e p : _} → form e ≡ Term-F.Fields [] p → Checks Γ e sort_type no_value
-      parameter_given : {Γ e w c ds p T t : _} → form e ≡ Term-F.Var (WholeName w) p → Finds Γ e sort_type t → IsType items e T →
-          out-CType T ≡ CType-F.Param c ds → Checks Γ e sort_param t
+      parameter_given : {Γ e w c ds p T t : _} → form e ≡ Term-F.Var (WholeName w) p → Finds Γ e sort_type t →
+          IsParameter items w T ⊎ IsType items e T → out-CType T ≡ CType-F.Param c ds → Checks Γ e sort_param t
       found : {Γ e S T t u : _} → passes (form e) (out-CType T) ≡ false → Finds Γ e S t → Fits S T t u → Checks Γ e T u
 
     -- a lambda of several variables is one in another
