@@ -19,7 +19,7 @@ use Rattle.gft_syntax.specs.declared.term.Term.{Term}
 use Rattle.gft_syntax.specs.declared.term.Term.TheOpen as F
 use Rattle.gft_syntax.specs.Parts.{is_value}
 use Rattle.gft_model.specs.ConcreteTypes.{record_in, table_in, IsSubtype, equal, fewer_labels, tables, numbers, functions}
-use Rattle.gft_model.specs.ConcreteTyping.{is_type_form, is_table_expression, passes, Spine, applied_to, at_head, Fits, same, cut, sort, IsType, IsData, an_overload, Stands, Takes, takes_none, takes, Suits, suits_by, Chosen, parameter_of, AreLabels, no_label, label, text_type, type_of_types, type_of_parameters, numbers_to, labels, table_over, function_from, pair_of, parameters_named, oper_named, definition_named, with_names, with_lets, Finds, Checks, ChecksLambda, body, binds, ChecksTable, cell, over, ChecksArguments, no_argument_left, next_argument, FindsAll, none_found, next_found, MembersFind, first_member, MembersCheck, no_member, member, BranchesFind, first_branch, BranchesCheck, no_branch, branch, FieldsHave, no_field, value_given, value_found, typed_given, typed_alone, Defines, no_local, local, typed_local, variable, constructor_name, typed_oper, untyped_oper, alternative_alone, parameter_name, literal, append, glue, number, predef, projection, application, overloaded, selection, branch_over, branch_of, item_of, case_found, table_found, list_found, record_found, extension, typed, let_found, variants_found, lambda, table_lambda, branches, branches_over, listed, record_given, let_given, case_given, variants_given, empty_type, parameter_given, found, type_form}
+use Rattle.gft_model.specs.ConcreteTyping.{is_term_first, is_table_expression, passes, Spine, applied_to, at_head, Fits, same, cut, sort, IsType, IsData, an_overload, Stands, Takes, takes_none, takes, Suits, suits_by, Chosen, parameter_of, AreLabels, no_label, label, text_type, type_of_types, type_of_parameters, numbers_to, labels, table_over, function_from, pair_of, parameters_named, oper_named, definition_named, with_names, with_lets, Finds, Checks, ChecksLambda, body, binds, ChecksTable, cell, over, ChecksArguments, no_argument_left, next_argument, FindsAll, none_found, next_found, MembersFind, first_member, MembersCheck, no_member, member, BranchesFind, first_branch, BranchesCheck, no_branch, branch, FieldsHave, no_field, value_given, value_found, typed_given, typed_alone, Defines, no_local, local, typed_local, variable, constructor_name, typed_oper, untyped_oper, alternative_alone, parameter_name, literal, append, glue, number, predef, projection, application, overloaded, selection, branch_over, branch_of, item_of, case_found, table_found, list_found, record_found, extension, typed, let_found, variants_found, lambda, table_lambda, branches, branches_over, listed, record_given, let_given, case_given, variants_given, empty_type, parameter_given, found, type_form}
 use Rattle.gft_model.specs.Items.{Item}
 use Rattle.gft_model.specs.PatternTyping.{Scope}
 use Rattle.gft_model.specs.TypeForms.{form, record_type}
@@ -173,6 +173,31 @@ module _ (items : List Item) where
   ints_head (oper_named n h i j k l) e = absurd (cc)
   ints_head (definition_named n h i j k) e = absurd (cc)
 
+  -- forms of types, and that what is a type and no name or {} has one
+  abbrev is_type_form : F.Term-F Term → Bool
+  is_type_form (F.Sort s p) = true
+  is_type_form (F.App f a p) = true
+  is_type_form (F.Arrow xs a b p) = true
+  is_type_form (F.TabType a b p) = true
+  is_type_form (F.Pair a b p) = true
+  is_type_form (F.Fields [] p) = false
+  is_type_form (F.Fields (l ∷ ls) p) = true
+  is_type_form d = false
+
+  typed-form : {e : Term} {T : CType} → IsType items e T → is_term_first (form e) ≡ false → is_type_form (form e) ≡ true
+  typed-form (text_type h) n = ap is_type_form h
+  typed-form (type_of_types h) n = ap is_type_form h
+  typed-form (type_of_parameters h) n = ap is_type_form h
+  typed-form (numbers_to h i j k) n = ap is_type_form h
+  typed-form (labels {ls = []} h i) n = let k = ap is_term_first (sym h) ∙ n in absurd (apart (sym k))
+  typed-form (labels {ls = l ∷ ls} h i) n = ap is_type_form h
+  typed-form (table_over h i j k l) n = ap is_type_form h
+  typed-form (function_from h i j k) n = ap is_type_form h
+  typed-form (pair_of h i) n = ap is_type_form h
+  typed-form (parameters_named h i j) n = let k = ap is_term_first (sym h) ∙ n in absurd (apart (sym k))
+  typed-form (oper_named m h i j k l) n = let k = ap is_term_first (sym h) ∙ n in absurd (apart (sym k))
+  typed-form (definition_named m h i j k) n = let k = ap is_term_first (sym h) ∙ n in absurd (apart (sym k))
+
   fields_labels : {d : Term} {T : CType} {ls : List (Local Term)} {p : Place} → IsType items d T → form d ≡ F.Fields ls p → (fs : List (List ℕ × CType)) × AreLabels items ls fs
   fields_labels (text_type h) e = absurd (cc)
   fields_labels (type_of_types h) e = absurd (cc)
@@ -199,11 +224,11 @@ module _ (items : List Item) where
       let x = spine_is_app s in let i = ints_head t (ap form (sym e) ∙ x.3) in let j = spine_ints s x.3 i.1 in cc
 
   no_record : {Γ : Scope} {e d : Term} {T : CType} {ls : List (Local Term)} {p : Place} {gs fs : List (List ℕ × CType)} {ts : List (List ℕ × LinTerm)} →
-      form e ≡ F.Fields ls p → FieldsHave items Γ gs ls fs ts → is_type_form (form d) ≡ true → IsType items d T → e ≡ d → ⊥
+      form e ≡ F.Fields ls p → FieldsHave items Γ gs ls fs ts → is_term_first (form d) ≡ false → IsType items d T → e ≡ d → ⊥
   no_record {ls = ls} {p = p} h f k t e =
       let l = fields_labels t (ap form (sym e) ∙ h) in
       let m = no-mix l.1 f refl in
-      let n : false ≡ true = ap (λ (xs : List (Local Term)). is_type_form (F.Fields xs p)) (sym m) ∙ ap is_type_form (sym h ∙ ap form e) ∙ k in
+      let n : false ≡ true = ap (λ (xs : List (Local Term)). is_type_form (F.Fields xs p)) (sym m) ∙ ap is_type_form (sym h ∙ ap form e) ∙ typed-form t k in
       apart n
 
   takes-once : {F G R S : CType} {As Bs : List CType} {t s u v : LinTerm} {us vs : List LinTerm} → Takes items F t As us R u → Takes items G s Bs vs S v → F ≡ G → t ≡ s → As ≡ Bs → us ≡ vs → (R ≡ S) × (u ≡ v)
@@ -324,7 +349,7 @@ module _ (items : List Item) where
   overload-found (typed_oper k a0 a1 a2) h s e = cc
   overload-found (untyped_oper k a0 a1 a2) h s e = cc
   overload-found (parameter_name a0 (parameter_of a1 a2 a3)) h s e = cc
-  overload-found (type_form a0 a1) h s e = apart (ap is_type_form (sym h) ∙ a0)
+  overload-found (type_form a0 a1) h s e = apart (ap is_type_form (sym h) ∙ typed-form a1 a0)
   overload-found d h s e = apart-tags _ _ refl (ap tag (sym h ∙ form_is d))
 
   takes-arguments : {Γ : Scope} {T R : CType} {t u : LinTerm} {a : Term} {es ds : List Term} → ChecksArguments items Γ T t es R u → es ≡ a ∷ ds → (A : CType) × (B : CType) × (out-CType T ≡ C.Fun A B)
@@ -402,67 +427,67 @@ module _ (items : List Item) where
   empty-found (typed a0 a1 a2) h = cc
   empty-found (let_found a0 a1 a2) h = cc
   empty-found (variants_found a0 a1) h = cc
-  empty-found {p = p} (type_form a0 a1) h = let k : is_type_form (F.Fields [] p) ≡ true = ap is_type_form (sym h) ∙ a0 in absurd (apart k)
+  empty-found {p = p} (type_form a0 a1) h = let k : is_type_form (F.Fields [] p) ≡ true = ap is_type_form (sym h) ∙ typed-form a1 a0 in absurd (apart k)
 
   mutual
     pub find-once : {Γ Δ : Scope} {e f : Term} {S T : CType} {t u : LinTerm} → Finds items Γ e S t → Finds items Δ f T u → Γ ≡ Δ → e ≡ f → (S ≡ T) × (t ≡ u)
     find-once (variable a0 a1) (variable b0 b1) g e = (cc, cc)
-    find-once (variable a0 a1) (type_form b0 b1) g e = let k : false ≡ true = ap is_type_form (sym a0 ∙ ap form e) ∙ b0 in absurd (apart k)
+    find-once (variable a0 a1) (type_form b0 b1) g e = let k : false ≡ true = ap is_type_form (sym a0 ∙ ap form e) ∙ typed-form b1 b0 in absurd (apart k)
     find-once (variable a0 a1) d g e = absurd (apart-tags _ _ refl (same-tag a0 e (form_is d)))
     find-once (constructor_name a0 a1 a2 a3) (constructor_name b0 b1 b2 b3) g e = let i = parameter-once items a2 b2 (cc) in let j = same-arguments a3 b3 i (cc) in (cc, cc)
     find-once (constructor_name a0 a1 a2 a3) (typed_oper bk b0 b1 b2) g e = (cc, cc)
     find-once (constructor_name a0 a1 a2 a3) (untyped_oper bk b0 b1 b2) g e = (cc, cc)
     find-once (constructor_name a0 a1 a2 a3) (alternative_alone bk b0 b1 b2) g e = (cc, cc)
     find-once (constructor_name a0 a1 a2 a3) (parameter_name b0 (parameter_of b1 b2 b3)) g e = (cc, cc)
-    find-once (constructor_name a0 a1 a2 a3) (type_form b0 b1) g e = let k : false ≡ true = ap is_type_form (sym a0 ∙ ap form e) ∙ b0 in absurd (apart k)
+    find-once (constructor_name a0 a1 a2 a3) (type_form b0 b1) g e = let k : false ≡ true = ap is_type_form (sym a0 ∙ ap form e) ∙ typed-form b1 b0 in absurd (apart k)
     find-once (constructor_name a0 a1 a2 a3) d g e = absurd (apart-tags _ _ refl (same-tag a0 e (form_is d)))
     find-once (typed_oper ak a0 a1 a2) (typed_oper bk b0 b1 b2) g e = let i = type-once items a2 b2 (cc) in (i, cc)
     find-once (typed_oper ak a0 a1 a2) (constructor_name b0 b1 b2 b3) g e = (cc, cc)
     find-once (typed_oper ak a0 a1 a2) (untyped_oper bk b0 b1 b2) g e = (cc, cc)
     find-once (typed_oper ak a0 a1 a2) (alternative_alone bk b0 b1 b2) g e = (cc, cc)
     find-once (typed_oper ak a0 a1 a2) (parameter_name b0 (parameter_of b1 b2 b3)) g e = (cc, cc)
-    find-once (typed_oper ak a0 a1 a2) (type_form b0 b1) g e = let k : false ≡ true = ap is_type_form (sym a0 ∙ ap form e) ∙ b0 in absurd (apart k)
+    find-once (typed_oper ak a0 a1 a2) (type_form b0 b1) g e = let k : false ≡ true = ap is_type_form (sym a0 ∙ ap form e) ∙ typed-form b1 b0 in absurd (apart k)
     find-once (typed_oper ak a0 a1 a2) d g e = absurd (apart-tags _ _ refl (same-tag a0 e (form_is d)))
     find-once (untyped_oper ak a0 a1 a2) (untyped_oper bk b0 b1 b2) g e = let i = find-once a2 b2 refl (cc) in (i.0, cc)
     find-once (untyped_oper ak a0 a1 a2) (constructor_name b0 b1 b2 b3) g e = (cc, cc)
     find-once (untyped_oper ak a0 a1 a2) (typed_oper bk b0 b1 b2) g e = (cc, cc)
     find-once (untyped_oper ak a0 a1 a2) (alternative_alone bk b0 b1 b2) g e = (cc, cc)
     find-once (untyped_oper ak a0 a1 a2) (parameter_name b0 (parameter_of b1 b2 b3)) g e = (cc, cc)
-    find-once (untyped_oper ak a0 a1 a2) (type_form b0 b1) g e = let k : false ≡ true = ap is_type_form (sym a0 ∙ ap form e) ∙ b0 in absurd (apart k)
+    find-once (untyped_oper ak a0 a1 a2) (type_form b0 b1) g e = let k : false ≡ true = ap is_type_form (sym a0 ∙ ap form e) ∙ typed-form b1 b0 in absurd (apart k)
     find-once (untyped_oper ak a0 a1 a2) d g e = absurd (apart-tags _ _ refl (same-tag a0 e (form_is d)))
     find-once (alternative_alone ak a0 a1 a2) (alternative_alone bk b0 b1 b2) g e = chosen-once a2 b2 (cc) refl refl
     find-once (alternative_alone ak a0 a1 a2) (constructor_name b0 b1 b2 b3) g e = (cc, cc)
     find-once (alternative_alone ak a0 a1 a2) (typed_oper bk b0 b1 b2) g e = (cc, cc)
     find-once (alternative_alone ak a0 a1 a2) (untyped_oper bk b0 b1 b2) g e = (cc, cc)
     find-once (alternative_alone ak a0 a1 a2) (parameter_name b0 (parameter_of b1 b2 b3)) g e = (cc, cc)
-    find-once (alternative_alone ak a0 a1 a2) (type_form b0 b1) g e = let k : false ≡ true = ap is_type_form (sym a0 ∙ ap form e) ∙ b0 in absurd (apart k)
+    find-once (alternative_alone ak a0 a1 a2) (type_form b0 b1) g e = let k : false ≡ true = ap is_type_form (sym a0 ∙ ap form e) ∙ typed-form b1 b0 in absurd (apart k)
     find-once (alternative_alone ak a0 a1 a2) d g e = absurd (apart-tags _ _ refl (same-tag a0 e (form_is d)))
     find-once (parameter_name a0 a1) (parameter_name b0 b1) g e = (refl, refl)
     find-once (parameter_name a0 (parameter_of a1 a2 a3)) (constructor_name b0 b1 b2 b3) g e = (cc, cc)
     find-once (parameter_name a0 (parameter_of a1 a2 a3)) (typed_oper bk b0 b1 b2) g e = (cc, cc)
     find-once (parameter_name a0 (parameter_of a1 a2 a3)) (untyped_oper bk b0 b1 b2) g e = (cc, cc)
     find-once (parameter_name a0 (parameter_of a1 a2 a3)) (alternative_alone bk b0 b1 b2) g e = (cc, cc)
-    find-once (parameter_name a0 a1) (type_form b0 b1) g e = let k : false ≡ true = ap is_type_form (sym a0 ∙ ap form e) ∙ b0 in absurd (apart k)
+    find-once (parameter_name a0 a1) (type_form b0 b1) g e = let k : false ≡ true = ap is_type_form (sym a0 ∙ ap form e) ∙ typed-form b1 b0 in absurd (apart k)
     find-once (parameter_name a0 a1) d g e = absurd (apart-tags _ _ refl (same-tag a0 e (form_is d)))
     find-once (literal a0) (literal b0) g e = (refl, cc)
-    find-once (literal a0) (type_form b0 b1) g e = let k : false ≡ true = ap is_type_form (sym a0 ∙ ap form e) ∙ b0 in absurd (apart k)
+    find-once (literal a0) (type_form b0 b1) g e = let k : false ≡ true = ap is_type_form (sym a0 ∙ ap form e) ∙ typed-form b1 b0 in absurd (apart k)
     find-once (literal a0) d g e = absurd (apart-tags _ _ refl (same-tag a0 e (form_is d)))
     find-once (append a0 a1 a2) (append b0 b1 b2) g e = let i = check-once a1 b1 g (cc) refl in let j = check-once a2 b2 g (cc) refl in (refl, cc)
-    find-once (append a0 a1 a2) (type_form b0 b1) g e = let k : false ≡ true = ap is_type_form (sym a0 ∙ ap form e) ∙ b0 in absurd (apart k)
+    find-once (append a0 a1 a2) (type_form b0 b1) g e = let k : false ≡ true = ap is_type_form (sym a0 ∙ ap form e) ∙ typed-form b1 b0 in absurd (apart k)
     find-once (append a0 a1 a2) d g e = absurd (apart-tags _ _ refl (same-tag a0 e (form_is d)))
     find-once (glue a0 a1 a2) (glue b0 b1 b2) g e = let i = check-once a1 b1 g (cc) refl in let j = check-once a2 b2 g (cc) refl in (refl, cc)
-    find-once (glue a0 a1 a2) (type_form b0 b1) g e = let k : false ≡ true = ap is_type_form (sym a0 ∙ ap form e) ∙ b0 in absurd (apart k)
+    find-once (glue a0 a1 a2) (type_form b0 b1) g e = let k : false ≡ true = ap is_type_form (sym a0 ∙ ap form e) ∙ typed-form b1 b0 in absurd (apart k)
     find-once (glue a0 a1 a2) d g e = absurd (apart-tags _ _ refl (same-tag a0 e (form_is d)))
     find-once (number a0) (number b0) g e = (cc, cc)
-    find-once (number a0) (type_form b0 b1) g e = let k : false ≡ true = ap is_type_form (sym a0 ∙ ap form e) ∙ b0 in absurd (apart k)
+    find-once (number a0) (type_form b0 b1) g e = let k : false ≡ true = ap is_type_form (sym a0 ∙ ap form e) ∙ typed-form b1 b0 in absurd (apart k)
     find-once (number a0) d g e = absurd (apart-tags _ _ refl (same-tag a0 e (form_is d)))
     find-once (predef a0 a1 a2) (predef b0 b1 b2) g e = (refl, cc)
     find-once (predef a0 a1 a2) (projection b0 b1 b2 b3) g e = absurd (no-sort-found b1 (apart-heads a0 b0 e a1) refl)
-    find-once (predef a0 a1 a2) (type_form b0 b1) g e = let k : false ≡ true = ap is_type_form (sym a0 ∙ ap form e) ∙ b0 in absurd (apart k)
+    find-once (predef a0 a1 a2) (type_form b0 b1) g e = let k : false ≡ true = ap is_type_form (sym a0 ∙ ap form e) ∙ typed-form b1 b0 in absurd (apart k)
     find-once (predef a0 a1 a2) d g e = absurd (apart-tags _ _ refl (same-tag a0 e (form_is d)))
     find-once (projection a0 a1 a2 a3) (projection b0 b1 b2 b3) g e = let i = find-once a1 b1 g (cc) in (cc, cc)
     find-once (projection a0 a1 a2 a3) (predef b0 b1 b2) g e = absurd (no-sort-found a1 (apart-heads b0 a0 (sym e) b1) refl)
-    find-once (projection a0 a1 a2 a3) (type_form b0 b1) g e = let k : false ≡ true = ap is_type_form (sym a0 ∙ ap form e) ∙ b0 in absurd (apart k)
+    find-once (projection a0 a1 a2 a3) (type_form b0 b1) g e = let k : false ≡ true = ap is_type_form (sym a0 ∙ ap form e) ∙ typed-form b1 b0 in absurd (apart k)
     find-once (projection a0 a1 a2 a3) d g e = absurd (apart-tags _ _ refl (same-tag a0 e (form_is d)))
     find-once (application a0 a1 a2) (application b0 b1 b2) g e = let s = spine-once a0 b0 e refl in let i = find-once a1 b1 g s.0 in arguments-once a2 b2 g i.0 i.1 s.1
     find-once (application a0 a1 a2) (overloaded bk b0 b1 b2 b3 b4) g e = let s = spine-once a0 b0 e refl in let x = takes-arguments a2 refl in absurd (overload-found a1 (ap form s.0 ∙ b1) b2 x.2)
@@ -476,55 +501,55 @@ module _ (items : List Item) where
     find-once (selection a0 a1 a2 a3 a4) (branch_over b0 b1 b2 b3 b4 b5) g e = absurd (apart-tables a0 b0 e a1 (ap is_table_expression b1))
     find-once (selection a0 a1 a2 a3 a4) (branch_of b0 b1 b2 b3 b4) g e = absurd (apart-tables a0 b0 e a1 (ap is_table_expression b1))
     find-once (selection a0 a1 a2 a3 a4) (item_of b0 b1 b2 b3 b4 b5 b6) g e = absurd (apart-tables a0 b0 e a1 (ap is_table_expression b1))
-    find-once (selection a0 a1 a2 a3 a4) (type_form b0 b1) g e = let k : false ≡ true = ap is_type_form (sym a0 ∙ ap form e) ∙ b0 in absurd (apart k)
+    find-once (selection a0 a1 a2 a3 a4) (type_form b0 b1) g e = let k : false ≡ true = ap is_type_form (sym a0 ∙ ap form e) ∙ typed-form b1 b0 in absurd (apart k)
     find-once (selection a0 a1 a2 a3 a4) d g e = absurd (apart-tags _ _ refl (same-tag a0 e (form_is d)))
     find-once (branch_over a0 a1 a2 a3 a4 a5) (branch_over b0 b1 b2 b3 b4 b5) g e = let i = type-once items a2 b2 (cc) in let j = branches-found a3 b3 g i (cc) in let l = check-once a5 b5 g (cc) i in (j.0, cc)
     find-once (branch_over a0 a1 a2 a3 a4 a5) (selection b0 b1 b2 b3 b4) g e = absurd (apart-tables b0 a0 (sym e) b1 (ap is_table_expression a1))
     find-once (branch_over a0 a1 a2 a3 a4 a5) (branch_of b0 b1 b2 b3 b4) g e = (cc, cc)
     find-once (branch_over a0 a1 a2 a3 a4 a5) (item_of b0 b1 b2 b3 b4 b5 b6) g e = (cc, cc)
-    find-once (branch_over a0 a1 a2 a3 a4 a5) (type_form b0 b1) g e = let k : false ≡ true = ap is_type_form (sym a0 ∙ ap form e) ∙ b0 in absurd (apart k)
+    find-once (branch_over a0 a1 a2 a3 a4 a5) (type_form b0 b1) g e = let k : false ≡ true = ap is_type_form (sym a0 ∙ ap form e) ∙ typed-form b1 b0 in absurd (apart k)
     find-once (branch_over a0 a1 a2 a3 a4 a5) d g e = absurd (apart-tags _ _ refl (same-tag a0 e (form_is d)))
     find-once (branch_of a0 a1 a2 a3 a4) (branch_of b0 b1 b2 b3 b4) g e = let i = find-once a2 b2 g (cc) in let j = branches-found a3 b3 g i.0 (cc) in (j.0, cc)
     find-once (branch_of a0 a1 a2 a3 a4) (selection b0 b1 b2 b3 b4) g e = absurd (apart-tables b0 a0 (sym e) b1 (ap is_table_expression a1))
     find-once (branch_of a0 a1 a2 a3 a4) (branch_over b0 b1 b2 b3 b4 b5) g e = (cc, cc)
     find-once (branch_of a0 a1 a2 a3 a4) (item_of b0 b1 b2 b3 b4 b5 b6) g e = (cc, cc)
-    find-once (branch_of a0 a1 a2 a3 a4) (type_form b0 b1) g e = let k : false ≡ true = ap is_type_form (sym a0 ∙ ap form e) ∙ b0 in absurd (apart k)
+    find-once (branch_of a0 a1 a2 a3 a4) (type_form b0 b1) g e = let k : false ≡ true = ap is_type_form (sym a0 ∙ ap form e) ∙ typed-form b1 b0 in absurd (apart k)
     find-once (branch_of a0 a1 a2 a3 a4) d g e = absurd (apart-tags _ _ refl (same-tag a0 e (form_is d)))
     find-once (item_of a0 a1 a2 a3 a4 a5 a6) (item_of b0 b1 b2 b3 b4 b5 b6) g e = let i = type-once items a2 b2 (cc) in let j = members-found a4 b4 g (cc) in let l = check-once a6 b6 g (cc) i in (j.0, cc)
     find-once (item_of a0 a1 a2 a3 a4 a5 a6) (selection b0 b1 b2 b3 b4) g e = absurd (apart-tables b0 a0 (sym e) b1 (ap is_table_expression a1))
     find-once (item_of a0 a1 a2 a3 a4 a5 a6) (branch_over b0 b1 b2 b3 b4 b5) g e = (cc, cc)
     find-once (item_of a0 a1 a2 a3 a4 a5 a6) (branch_of b0 b1 b2 b3 b4) g e = (cc, cc)
-    find-once (item_of a0 a1 a2 a3 a4 a5 a6) (type_form b0 b1) g e = let k : false ≡ true = ap is_type_form (sym a0 ∙ ap form e) ∙ b0 in absurd (apart k)
+    find-once (item_of a0 a1 a2 a3 a4 a5 a6) (type_form b0 b1) g e = let k : false ≡ true = ap is_type_form (sym a0 ∙ ap form e) ∙ typed-form b1 b0 in absurd (apart k)
     find-once (item_of a0 a1 a2 a3 a4 a5 a6) d g e = absurd (apart-tags _ _ refl (same-tag a0 e (form_is d)))
     find-once (case_found a0 a1 a2 a3) (case_found b0 b1 b2 b3) g e = let i = find-once a1 b1 g (cc) in let j = branches-found a2 b2 g i.0 (cc) in (j.0, cc)
-    find-once (case_found a0 a1 a2 a3) (type_form b0 b1) g e = let k : false ≡ true = ap is_type_form (sym a0 ∙ ap form e) ∙ b0 in absurd (apart k)
+    find-once (case_found a0 a1 a2 a3) (type_form b0 b1) g e = let k : false ≡ true = ap is_type_form (sym a0 ∙ ap form e) ∙ typed-form b1 b0 in absurd (apart k)
     find-once (case_found a0 a1 a2 a3) d g e = absurd (apart-tags _ _ refl (same-tag a0 e (form_is d)))
     find-once (table_found a0 a1 a2 a3 a4) (table_found b0 b1 b2 b3 b4) g e = let i = type-once items a1 b1 (cc) in let j = branches-found a3 b3 g i (cc) in (cc, cc)
-    find-once (table_found a0 a1 a2 a3 a4) (type_form b0 b1) g e = let k : false ≡ true = ap is_type_form (sym a0 ∙ ap form e) ∙ b0 in absurd (apart k)
+    find-once (table_found a0 a1 a2 a3 a4) (type_form b0 b1) g e = let k : false ≡ true = ap is_type_form (sym a0 ∙ ap form e) ∙ typed-form b1 b0 in absurd (apart k)
     find-once (table_found a0 a1 a2 a3 a4) d g e = absurd (apart-tags _ _ refl (same-tag a0 e (form_is d)))
     find-once (list_found a0 a1 a2 a3 a4) (list_found b0 b1 b2 b3 b4) g e = let i = type-once items a1 b1 (cc) in let j = members-found a3 b3 g (cc) in (cc, cc)
-    find-once (list_found a0 a1 a2 a3 a4) (type_form b0 b1) g e = let k : false ≡ true = ap is_type_form (sym a0 ∙ ap form e) ∙ b0 in absurd (apart k)
+    find-once (list_found a0 a1 a2 a3 a4) (type_form b0 b1) g e = let k : false ≡ true = ap is_type_form (sym a0 ∙ ap form e) ∙ typed-form b1 b0 in absurd (apart k)
     find-once (list_found a0 a1 a2 a3 a4) d g e = absurd (apart-tags _ _ refl (same-tag a0 e (form_is d)))
     find-once (record_found a0 a1) (record_found b0 b1) g e = let i = fields-have a1 b1 g refl (cc) in (cc, cc)
     find-once (record_found a0 a1) (type_form b0 b1) g e = absurd (no_record a0 a1 b0 b1 e)
     find-once (record_found a0 a1) d g e = absurd (apart-tags _ _ refl (same-tag a0 e (form_is d)))
     find-once (extension a0 a1 a2 a3 a4) (extension b0 b1 b2 b3 b4) g e = let i = find-once a1 b1 g (cc) in let j = find-once a3 b3 g (cc) in (same-extension i.0 j.0 a2 a4 b2 b4, cc)
-    find-once (extension a0 a1 a2 a3 a4) (type_form b0 b1) g e = let k : false ≡ true = ap is_type_form (sym a0 ∙ ap form e) ∙ b0 in absurd (apart k)
+    find-once (extension a0 a1 a2 a3 a4) (type_form b0 b1) g e = let k : false ≡ true = ap is_type_form (sym a0 ∙ ap form e) ∙ typed-form b1 b0 in absurd (apart k)
     find-once (extension a0 a1 a2 a3 a4) d g e = absurd (apart-tags _ _ refl (same-tag a0 e (form_is d)))
     find-once (typed a0 a1 a2) (typed b0 b1 b2) g e = let i = type-once items a1 b1 (cc) in let j = check-once a2 b2 g (cc) i in (i, j)
-    find-once (typed a0 a1 a2) (type_form b0 b1) g e = let k : false ≡ true = ap is_type_form (sym a0 ∙ ap form e) ∙ b0 in absurd (apart k)
+    find-once (typed a0 a1 a2) (type_form b0 b1) g e = let k : false ≡ true = ap is_type_form (sym a0 ∙ ap form e) ∙ typed-form b1 b0 in absurd (apart k)
     find-once (typed a0 a1 a2) d g e = absurd (apart-tags _ _ refl (same-tag a0 e (form_is d)))
     find-once (let_found a0 a1 a2) (let_found b0 b1 b2) g e = let i = defines-once a1 b1 g (cc) in let j = find-once a2 b2 i.0 (cc) in (j.0, cc)
-    find-once (let_found a0 a1 a2) (type_form b0 b1) g e = let k : false ≡ true = ap is_type_form (sym a0 ∙ ap form e) ∙ b0 in absurd (apart k)
+    find-once (let_found a0 a1 a2) (type_form b0 b1) g e = let k : false ≡ true = ap is_type_form (sym a0 ∙ ap form e) ∙ typed-form b1 b0 in absurd (apart k)
     find-once (let_found a0 a1 a2) d g e = absurd (apart-tags _ _ refl (same-tag a0 e (form_is d)))
     find-once (variants_found a0 a1) (variants_found b0 b1) g e = let i = members-found a1 b1 g (cc) in (i.0, cc)
-    find-once (variants_found a0 a1) (type_form b0 b1) g e = let k : false ≡ true = ap is_type_form (sym a0 ∙ ap form e) ∙ b0 in absurd (apart k)
+    find-once (variants_found a0 a1) (type_form b0 b1) g e = let k : false ≡ true = ap is_type_form (sym a0 ∙ ap form e) ∙ typed-form b1 b0 in absurd (apart k)
     find-once (variants_found a0 a1) d g e = absurd (apart-tags _ _ refl (same-tag a0 e (form_is d)))
     find-once (type_form a0 a1) (type_form b0 b1) g e = (refl, refl)
     find-once (type_form a0 a1) (application b0 b1 b2) g e = absurd (no_ints b0 b1 a1 (sym e))
     find-once (type_form a0 a1) (overloaded bk b0 b1 b2 b3 b4) g e = absurd (no_ints_var b0 b1 a1 (sym e))
     find-once (type_form a0 a1) (record_found b0 b1) g e = absurd (no_record b0 b1 a0 a1 (sym e))
-    find-once (type_form a0 a1) d g e = let k : is_type_form (form_of d) ≡ true = ap is_type_form (sym (form_is d) ∙ ap form (sym e)) ∙ a0 in absurd (apart k)
+    find-once (type_form a0 a1) d g e = let k : is_type_form (form_of d) ≡ true = ap is_type_form (sym (form_is d) ∙ ap form (sym e)) ∙ typed-form a1 a0 in absurd (apart k)
 
     pub check-once : {Γ Δ : Scope} {e f : Term} {S T : CType} {t u : LinTerm} → Checks items Γ e S t → Checks items Δ f T u → Γ ≡ Δ → e ≡ f → S ≡ T → t ≡ u
     check-once (found a0 a1 a2) (found b0 b1 b2) g e s = let i = find-once a1 b1 g e in fits-same a2 b2 i.0 s i.1

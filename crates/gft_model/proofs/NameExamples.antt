@@ -15,7 +15,7 @@ use Rattle.gft_syntax.specs.declared.term.Sort.TheVariants as Sort
 use Rattle.gft_syntax.specs.declared.term.Term.{Term, roll-Term}
 use Rattle.gft_syntax.specs.declared.term.Term.TheOpen as F
 use Rattle.gft_model.specs.ConcreteTypes.{count_of}
-use Rattle.gft_model.specs.ConcreteTyping.{IsType, IsParameter, parameter_of, constructor, no_constructor, no_argument, parameters_named, definition_named, numbers_to, Finds, Checks, found, type_form, is_type_form, parameter_name, untyped_oper, parameter_given}
+use Rattle.gft_model.specs.ConcreteTyping.{IsType, IsParameter, parameter_of, constructor, no_constructor, no_argument, parameters_named, definition_named, numbers_to, Finds, Checks, found, type_form, is_term_first, parameter_name, untyped_oper, parameter_given}
 use Rattle.gft_model.specs.Items.{Item, parameter_type, oper}
 use Rattle.gft_model.specs.TypeForms.{sort_type, sort_param, made, no_value}
 use Rattle.gft_model.proofs.Computing.{form-roll}
@@ -66,7 +66,7 @@ abbrev ints_three : Term
 ints_three = roll-Term (F.App (roll-Term (F.Sort Sort.Ints nowhere)) (roll-Term (F.Num 3 nowhere)) nowhere)
 
 ints_found : Finds both [] ints_three sort_type no_value
-ints_found = type_form (ap is_type_form (form-roll _)) (numbers_to (form-roll _) (form-roll _) (form-roll _) (omega arith))
+ints_found = type_form (ap is_term_first (form-roll _)) (numbers_to (form-roll _) (form-roll _) (form-roll _) (omega arith))
 
 pub ints_do_not_fit : {T : CType} {t : LinTerm} → Checks both [] ints_three T t → T ≡ sort_param → ⊥
 ints_do_not_fit (found a b c) h =

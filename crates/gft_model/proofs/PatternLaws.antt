@@ -1,12 +1,15 @@
 -- A pattern fits a type in one way: its variables and their types are determined.
-use Rattle.std.proofs.Common.{◌≡◌, ap, refl, ℕ, List, ◌∷◌}
+use Rattle.std.proofs.Common.{◌≡◌, ap, sym, ◌∙◌, refl, ℕ, List, Some, map}
 use Rattle.gft_syntax.specs.declared.ctype.CType.{CType}
 use Rattle.gft_syntax.specs.declared.pattern.Pattern.{Pattern}
 use Rattle.gft_syntax.specs.declared.pattern.PatternField.{PatternField}
 use Rattle.gft_syntax.specs.declared.pattern.Pattern.TheOpen as P
 use Rattle.gft_syntax.specs.declared.reference.Reference.TheVariants.{Written, Whole as WholeName}
 use Rattle.gft_syntax.specs.declared.reference.Whole.{Whole}
-use Rattle.gft_model.specs.PatternTyping.{pattern_form, Scope, Constructs, constructs, PatternFits, either, sequence, constructor_with, repeated, as_well, anything, character, variable, literal, number, record_of, EachFits, no_more, more, FieldsFit, no_field, field}
+use Rattle.gft_model.specs.ConcreteTypes.{field_of}
+use Rattle.gft_model.specs.Matching.{label_by_label}
+use Rattle.gft_model.specs.Values.{all_there}
+use Rattle.gft_model.specs.PatternTyping.{pattern_form, Scope, Constructs, constructs, PatternFits, either, sequence, constructor_with, repeated, as_well, anything, character, variable, literal, number, record_of, EachFits, no_more, more}
 
 -- the form of a pattern that fits
 abbrev pub form_of : {T : CType} {r : Pattern} {Γ : Scope} → PatternFits T r Γ → P.Pattern-F Pattern
@@ -20,7 +23,7 @@ form_of (character {place = place} a0) = P.One place
 form_of (variable {x = x} {place = place} a0) = P.Name (Written x) place
 form_of (literal {t = t} {place = place} a0) = P.Text t place
 form_of (number {n = n} {place = place} a0 a1) = P.Num n place
-form_of (record_of {fs = fs} {place = place} a0 a1 a2) = P.Fields fs place
+form_of (record_of {fs = fs} {place = place} a0 a1 a2 a3) = P.Fields fs place
 
 pub form_is : {T : CType} {r : Pattern} {Γ : Scope} (d : PatternFits T r Γ) → pattern_form r ≡ form_of d
 form_is (either a0 a1 a2 a3) = a0
@@ -33,15 +36,11 @@ form_is (character a0) = a0
 form_is (variable a0) = a0
 form_is (literal a0) = a0
 form_is (number a0 a1) = a0
-form_is (record_of a0 a1 a2) = a0
+form_is (record_of a0 a1 a2 a3) = a0
 
 -- the types of a constructor's arguments are determined
 pub same-arguments : {c d : Whole} {Ts Us : List CType} {T U : CType} → Constructs c Ts T → Constructs d Us U → T ≡ U → c ≡ d → Ts ≡ Us
 same-arguments (constructs a0 a1) (constructs b0 b1) e f = cc
-
--- what equal lists of fields agree in
-heads : {a b : PatternField Pattern} {fs gs : List (PatternField Pattern)} → a ∷ fs ≡ b ∷ gs → (a.labels ≡ b.labels) × (a.pattern ≡ b.pattern) × (fs ≡ gs)
-heads {a = a} {b = b} e = let i : a ≡ b = cc in (ap (λ f. f.labels) i, ap (λ f. f.pattern) i, cc)
 
 mutual
   pub fits-once : {T U : CType} {r s : Pattern} {Γ Δ : Scope} → PatternFits T r Γ → PatternFits U s Δ → T ≡ U → r ≡ s → Γ ≡ Δ
@@ -65,18 +64,15 @@ mutual
   fits-once (literal a0) d e f = let k = form_is d in cc
   fits-once (number a0 a1) (number b0 b1) e f = refl
   fits-once (number a0 a1) d e f = let k = form_is d in cc
-  fits-once (record_of a0 a1 a2) (record_of b0 b1 b2) e f = fields-once a2 b2 (cc) (cc)
-  fits-once (record_of a0 a1 a2) d e f = let k = form_is d in cc
+  fits-once (record_of {fs = fs} {gs = gs} {Ts = Ts} a0 a1 a2 a3) (record_of {fs = es} {gs = hs} {Ts = Us} b0 b1 b2 b3) e f =
+      let k : fs ≡ es = cc in let l : gs ≡ hs = cc in
+      let h : Some Ts ≡ Some Us = sym a2 ∙ ap (λ (xs : List (PatternField Pattern)). all_there (map (λ x. field_of x.0 gs) (label_by_label xs))) k
+          ∙ ap (λ (ys : List (List ℕ × CType)). all_there (map (λ x. field_of x.0 ys) (label_by_label es))) l ∙ b2 in
+      each-once a3 b3 (cc) (ap (λ (xs : List (PatternField Pattern)). map (λ x. x.1) (label_by_label xs)) k)
+  fits-once (record_of a0 a1 a2 a3) d e f = let k = form_is d in cc
 
   each-once : {Ts Us : List CType} {ps qs : List Pattern} {Γ Δ : Scope} → EachFits Ts ps Γ → EachFits Us qs Δ → Ts ≡ Us → ps ≡ qs → Γ ≡ Δ
   each-once no_more no_more e f = refl
   each-once no_more (more b0 b1) e f = cc
   each-once (more a0 a1) no_more e f = cc
   each-once (more a0 a1) (more b0 b1) e f = let i = fits-once a0 b0 (cc) (cc) in let j = each-once a1 b1 (cc) (cc) in cc
-
-  fields-once : {gs hs : List (List ℕ × CType)} {fs es : List (PatternField Pattern)} {Γ Δ : Scope} → FieldsFit gs fs Γ → FieldsFit hs es Δ → gs ≡ hs → fs ≡ es → Γ ≡ Δ
-  fields-once no_field no_field e f = refl
-  fields-once no_field (field b0 b1 b2) e f = cc
-  fields-once (field a0 a1 a2) no_field e f = cc
-  fields-once (field a0 a1 a2) (field b0 b1 b2) e f = let h = heads f in
-      let i = fits-once a1 b1 (cc) h.1 in let j = fields-once a2 b2 e h.2 in cc

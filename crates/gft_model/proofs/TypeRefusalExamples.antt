@@ -149,7 +149,7 @@ abbrev empty_table : Term
 empty_table = roll-Term (T.TableOf None [] (here 4 11))
 
 pub no_branch_to_find : TypeFaults.BreaksTerm exh [] empty_table (TypingSites.over str_type) TypingSites.selected R.NoType []
-no_branch_to_find = TypeFaults.no_first_branch (ap (λ d. TypeFaults.empty_mode d (TypingSites.over str_type)) (form-roll _))
+no_branch_to_find = TypeFaults.no_branch_over (form-roll _) refl
 
 -- oper f = overload {f : Type = Str} ; x : f: that oper is a Type and names none
 abbrev type_term_alone : Term

@@ -73,16 +73,11 @@ is_table_expression (Term-F.TableOf P cs place) = true
 is_table_expression (Term-F.TableList P es place) = true
 is_table_expression d = false
 
--- a type form: a type by its form alone. Of applications only Ints n is a type, of fields only labels
-abbrev pub is_type_form : Layer → Bool
-is_type_form (Term-F.Sort s place) = true
-is_type_form (Term-F.App f a place) = true
-is_type_form (Term-F.Arrow xs a b place) = true
-is_type_form (Term-F.TabType a b place) = true
-is_type_form (Term-F.Pair a b place) = true
-is_type_form (Term-F.Fields [] place) = false
-is_type_form (Term-F.Fields (l ∷ ls) place) = true
-is_type_form d = false
+-- forms that mean a type only where a type must stand, and are read as other terms elsewhere: names, and {}
+abbrev pub is_term_first : Layer → Bool
+is_term_first (Term-F.Var x place) = true
+is_term_first (Term-F.Fields [] place) = true
+is_term_first d = false
 
 -- the names of one local, the last the nearest
 abbrev pub with_names : List (List ℕ) → CType → Scope → Scope
@@ -129,7 +124,7 @@ module _ (items : List Item) where
           Chosen w [] [] k R t → Finds Γ e R t
       parameter_name : {Γ e w p T : _} → form e ≡ Term-F.Var (WholeName w) p → IsParameter items w T →
           Finds Γ e sort_type no_value
-      type_form : {Γ e T : _} → is_type_form (form e) ≡ true → IsType items e T → Finds Γ e sort_type no_value
+      type_form : {Γ e T : _} → is_term_first (form e) ≡ false → IsType items e T → Finds Γ e sort_type no_value
       literal : {Γ e text p : _} → form e ≡ Term-F.Lit text p → Finds Γ e str_type (made (Lin-F.Words (words_of text)))
       append : {Γ e a b p t u : _} → form e ≡ Term-F.Concat a b p → Checks Γ a str_type t → Checks Γ b str_type u →
           Finds Γ e str_type (made (Lin-F.Concat t u))

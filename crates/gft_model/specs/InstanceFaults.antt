@@ -1,5 +1,5 @@
 -- Faults of an instance: what it gives for a constant has not the type that its interface declares.
-use Rattle.std.specs.Prelude.{◌≡◌, ◌≢◌, ℕ, suc, List, [], ◌∷◌, ◌++◌, map, length, Contains, Some, None, slice_get, if◌then◌else◌}
+use Rattle.std.specs.Prelude.{◌≡◌, ◌≢◌, ℕ, suc, List, [], ◌∷◌, ◌++◌, map, length, Contains, Some, None, slice_get}
 use Rattle.std.specs.List.{AllZip}
 use Rattle.gft_core.specs.declared.place.Place.{Place}
 use Rattle.gft_rules.specs.declared.refusal.Refusal.{Refusal}
@@ -18,10 +18,8 @@ use Rattle.gft_syntax.specs.declared.term.Term.{Term, roll-Term}
 use Rattle.gft_syntax.specs.declared.term.Term.TheOpen as T
 use Rattle.gft_model.specs.ConcreteTyping.{IsType, Stands, a_parameter, an_oper, an_overload}
 use Rattle.gft_model.specs.Flats.{AreMeanings, whole_of}
-use Rattle.gft_model.specs.Items.{Item, alternative}
 use Rattle.gft_model.specs.JudgementOrder.{answered}
 use Rattle.gft_model.specs.JudgementTyping.{items}
-use Rattle.gft_model.specs.Matching.{same_whole}
 use Rattle.gft_model.specs.Modules.{placed_names, Has, HasNameable, Writes, Declared, copy, main_name}
 use Rattle.gft_model.specs.Refusals.{Moment, refusal, name_moment}
 use Rattle.gft_model.specs.Resolution.{Names, resolved}
@@ -46,12 +44,6 @@ wanted_of (J.OperTyped ns t (D.Overload ds)) = alternatives (map (λ d. d.of_typ
 wanted_of (J.Oper ns xs (D.Overload ds)) = alternatives (map (λ d. d.of_type) ds)
 wanted_of j = nothing
 
--- the types of the alternatives of an overload, in order
-abbrev pub alternative_types : Whole → List Item → List Term
-alternative_types w [] = []
-alternative_types w (alternative v e xs t d ∷ is) = if same_whole w v then t ∷ alternative_types w is else alternative_types w is
-alternative_types w (i ∷ is) = alternative_types w is
-
 module _ (mods : List Module) (m : Module) (flat : Flat) where
   -- the instance gives e for what its interface declares under x; names are what the names in a copy of that mean
   pub data Replaced (x : List ℕ) (e : Declared) (text : Judgement) (names : Names) : Type 0 where
@@ -73,8 +65,9 @@ module _ (mods : List Module) (m : Module) (flat : Flat) where
         HasAnotherType w names (a_type t)
     overload_for_one : {t : _} → Stands (items flat) w an_overload → HasAnotherType w names (a_type t)
     one_for_overload : {ts : _} → ¬ (Stands (items flat) w an_overload) → HasAnotherType w names (alternatives ts)
-    other_alternatives : {ts As Bs : _} → AllZip (λ t A. IsType (items flat) (resolved names t []) A) ts As →
-        AllZip (IsType (items flat)) (alternative_types w (items flat)) Bs → As ≢ Bs → HasAnotherType w names (alternatives ts)
+    other_alternatives : {ts us As Bs : _} {f : FlatJudgement} → Contains flat.opers f → f.whole ≡ w →
+        wanted_of f.judgement ≡ alternatives us → AllZip (λ t A. IsType (items flat) (resolved names t []) A) ts As →
+        AllZip (IsType (items flat)) us Bs → As ≢ Bs → HasAnotherType w names (alternatives ts)
     no_parameter_type : ¬ (GivesParameter w) → HasAnotherType w names a_parameter_type
 
   -- the turn of a declared type and of its comparison: once the own judgement is typed, by its names in order; of an

@@ -4,14 +4,14 @@ use Rattle.std.specs.Map.{lookup}
 use Rattle.gft_syntax.specs.declared.ctype.CType.{CType, out-CType}
 use Rattle.gft_syntax.specs.declared.ctype.CType.TheOpen as CType-F
 use Rattle.gft_syntax.specs.declared.pattern.Pattern.{Pattern, out-Pattern}
-use Rattle.gft_syntax.specs.declared.pattern.PatternField.{PatternField}
 use Rattle.gft_syntax.specs.declared.pattern.Pattern.TheOpen.{Or, Seq, Con, Star, As, Any, One, Name, Text, Num, Fields, Tuple}
 use Rattle.gft_syntax.specs.declared.reference.Whole.{Whole}
 use Rattle.gft_syntax.specs.declared.reference.Reference.TheVariants.{Written, Whole as WholeName}
 use Rattle.gft_model.specs.ConcreteTypes.{field_of, IsSubtype}
 use Rattle.gft_syntax.specs.Patterns.{Layer}
 use Rattle.gft_model.specs.Matching.{same_whole, tuple_fields, label_by_label}
-use Rattle.gft_model.specs.TypeForms.{FieldTypes, str_type, number_type}
+use Rattle.gft_model.specs.Values.{all_there}
+use Rattle.gft_model.specs.TypeForms.{str_type, number_type}
 
 -- variables with their types, the nearest first
 abbrev pub Scope : Type 0
@@ -25,16 +25,11 @@ SameScope Γ Δ = (x : List ℕ) → field_of x Γ ≡ field_of x Δ
 pub data Constructs (c : Whole) (Ts : List CType) (T : CType) : Type 0 where
   constructs : {w ds : _} → out-CType T ≡ CType-F.Param w ds → lookup (same_whole c) ds ≡ Some Ts → Constructs c Ts T
 
--- a field of one label
-abbrev pub one_label : List ℕ × Pattern → PatternField Pattern
-one_label f = record { labels = f.0 ∷ []; pattern = f.1 }
-
--- the form of a pattern without other spellings: a constructor alone is one without arguments, each
--- field has one label, and a tuple is the record of its items
+-- the form of a pattern without other spellings: a constructor alone is one without arguments, and a tuple is the
+-- record of its items
 abbrev pub plain_pattern : Layer → Layer
 plain_pattern (Name (WholeName c) place) = Con None (WholeName c) [] place
-plain_pattern (Fields fs place) = Fields (map one_label (label_by_label fs)) place
-plain_pattern (Tuple ps place) = Fields (map one_label (tuple_fields ps)) place
+plain_pattern (Tuple ps place) = Fields (map (λ f. record { labels = f.0 ∷ []; pattern = f.1 }) (tuple_fields ps)) place
 plain_pattern d = d
 
 -- how typing sees a pattern
@@ -57,16 +52,11 @@ mutual
     variable : {T r x place : _} → pattern_form r ≡ Name (Written x) place → PatternFits T r ((x, T) ∷ [])
     literal : {r t place : _} → pattern_form r ≡ Text t place → PatternFits str_type r []
     number : {T r n place : _} → pattern_form r ≡ Num n place → IsSubtype (number_type n) T → PatternFits T r []
-    record_of : {T r fs gs place Γ : _} → pattern_form r ≡ Fields fs place → out-CType T ≡ CType-F.Record gs → FieldsFit gs fs Γ →
-        PatternFits T r Γ
+    record_of : {T r fs gs place Ts Γ : _} → pattern_form r ≡ Fields fs place → out-CType T ≡ CType-F.Record gs →
+        all_there (map (λ f. field_of f.0 gs) (label_by_label fs)) ≡ Some Ts →
+        EachFits Ts (map (λ f. f.1) (label_by_label fs)) Γ → PatternFits T r Γ
 
   -- as many patterns as types, each fits its own
   pub data EachFits : List CType → List Pattern → Scope → Type 0 where
     no_more : EachFits [] [] []
     more : {T Ts p ps Γ Δ : _} → PatternFits T p Γ → EachFits Ts ps Δ → EachFits (T ∷ Ts) (p ∷ ps) (Γ ++ Δ)
-
-  -- the patterns of named labels fit their types
-  pub data FieldsFit : FieldTypes → List (PatternField Pattern) → Scope → Type 0 where
-    no_field : {gs : _} → FieldsFit gs [] []
-    field : {gs l p fs T Γ Δ : _} → field_of l gs ≡ Some T → PatternFits T p Γ → FieldsFit gs fs Δ →
-        FieldsFit gs (record { labels = l ∷ []; pattern = p } ∷ fs) (Γ ++ Δ)

@@ -1,5 +1,5 @@
 -- Faults of types in a judgement, each at the term or pattern that is faulty.
-use Rattle.std.specs.Prelude.{◌≡◌, ℕ, ◌+◌, ◌<◌, ◌≤◌, List, [], ◌∷◌, ◌++◌, flat_map, length, drop, Bool, true, false, not, All, ◌⊎◌, bytes_eq, Contains, Option, Some, None, ◌≢◌, slice_get}
+use Rattle.std.specs.Prelude.{◌≡◌, ℕ, ◌+◌, ◌<◌, ◌≤◌, List, [], ◌∷◌, ◌++◌, flat_map, length, drop, true, false, not, All, ◌⊎◌, bytes_eq, Contains, Option, Some, None, ◌≢◌, slice_get}
 use Rattle.std.specs.List.{find, list_any, list_all}
 use Rattle.std.specs.Map.{keys_of}
 use Rattle.std.specs.Option.{is_some}
@@ -14,7 +14,10 @@ use Rattle.gft_syntax.specs.declared.judgement.Judgement.TheVariants as J
 use Rattle.gft_syntax.specs.declared.linear.LinTerm.{LinTerm}
 use Rattle.gft_syntax.specs.declared.pattern.Pattern.{Pattern}
 use Rattle.gft_syntax.specs.declared.pattern.Pattern.TheOpen as P
+use Rattle.gft_core.specs.declared.place.Place.{Place}
 use Rattle.gft_syntax.specs.declared.reference.PlacedName.{PlacedName}
+use Rattle.gft_syntax.specs.declared.reference.Reference.{Reference}
+use Rattle.gft_syntax.specs.declared.term.Case.{Case}
 use Rattle.gft_syntax.specs.declared.reference.Reference.TheVariants.{Whole as WholeName}
 use Rattle.gft_syntax.specs.declared.reference.Whole.{Whole}
 use Rattle.gft_syntax.specs.declared.term.Sort.TheVariants as Sort-V
@@ -26,7 +29,7 @@ use Rattle.gft_syntax.specs.Terms.{Layer, place_of}
 use Rattle.gft_model.specs.ConcreteTypes.{field_of, is_finite, count_of, values_of, record_in, table_in, function_in, IsSubtype}
 use Rattle.gft_model.specs.ConcreteTyping.{IsType, IsParameter, IsDomain, Fits, Checks, FindsAll, Suits, Stands, an_oper, an_overload, passes, is_covered, most_values, patterns}
 use Rattle.gft_model.specs.Modules.{placed_names}
-use Rattle.gft_model.specs.Items.{bare_parameter}
+use Rattle.gft_model.specs.Items.{Item, items_in, parameter_type, bare_parameter}
 use Rattle.gft_model.specs.JudgementTyping.{items, IsSort}
 use Rattle.gft_model.specs.PatternTyping.{Scope, PatternFits, pattern_form}
 use Rattle.gft_model.specs.Refusals.{Moment, refusal}
@@ -35,56 +38,14 @@ use Rattle.gft_model.specs.TypeForms.{form, str_type, number_type, table_type, f
 use Rattle.gft_model.specs.TypeTexts.{type_text, param_text}
 use Rattle.gft_model.specs.TypingSites.{Mode, found, given, as_type, over, Role, data_wanted, finite_wanted, to_fit, selected, applied, a_term, a_pattern, Site, term_mode, value_mode, Binds, FoundFor, HasOverload, IsConstructorOf, StandsIn, judgement_sites}
 
--- forms that need a type to be given: a lambda, \\, a table without its type, variants {}
-abbrev pub needs_type : Layer → Bool
-needs_type (T.Fun xs e place) = true
-needs_type (T.TabFun xs e place) = true
-needs_type (T.TableOf None cs place) = true
-needs_type (T.Variants [] place) = true
-needs_type d = false
-
--- the mode of the branches or items of a form that has none
-abbrev pub empty_mode : Layer → Mode → Option Mode
-empty_mode (T.CaseOf e [] place) m = Some m
-empty_mode (T.TableOf (Some t) [] place) m = Some (value_mode m)
-empty_mode (T.TableList t [] place) m = Some (value_mode m)
-empty_mode (T.TableOf None [] place) (over A) = Some found
-empty_mode d m = None
-
--- a form that may be a type: a name, a sort, Ints n, labels, and the types of functions, tables and pairs
-abbrev pub is_ints : Layer → Bool
-is_ints (T.Sort Sort-V.Ints place) = true
-is_ints d = false
-
-abbrev pub may_be_type : Layer → Bool
-may_be_type (T.Var r place) = true
-may_be_type (T.Sort s place) = true
-may_be_type (T.App f a place) = is_ints (form f)
-may_be_type (T.Fields ls place) = true
-may_be_type (T.Arrow xs a b place) = true
-may_be_type (T.TabType a b place) = true
-may_be_type (T.Pair a b place) = true
-may_be_type d = false
-
 -- the first of the labels that are wanted which is not there
 abbrev pub first_absent : List (List ℕ) → List (List ℕ) → Option (List ℕ)
 first_absent there wanted = find (λ l. not (list_any (bytes_eq l) there)) wanted
 
--- patterns of texts
-abbrev pub is_text_pattern : P.Pattern-F Pattern → Bool
-is_text_pattern (P.Text t place) = true
-is_text_pattern (P.One place) = true
-is_text_pattern (P.Seq p q place) = true
-is_text_pattern (P.Star p place) = true
-is_text_pattern d = false
-
--- the rule that a judgement breaks which needs itself
-abbrev pub cycle_rule : Judgement → Option Rule
-cycle_rule (J.Param n cs) = Some R.ParamCycle
-cycle_rule (J.OperType ns t) = Some R.OperCycle
-cycle_rule (J.OperTyped ns t d) = Some R.OperCycle
-cycle_rule (J.Oper ns xs d) = Some R.OperCycle
-cycle_rule j = None
+-- the rule that an item breaks which needs itself
+abbrev pub cycle_rule : Item → Rule
+cycle_rule (parameter_type w cs) = R.ParamCycle
+cycle_rule i = R.OperCycle
 
 -- a table with its type written
 pub data WritesDomain (e : Term) : Term → Type 0 where
@@ -106,13 +67,17 @@ module _ (flat : Flat) where
         BreaksSort Γ e S R.Unknown (w.name ∷ [])
     overload_is_no_type : {w : Whole} {p t : _} → form e ≡ T.Var (WholeName w) p → Stands (items flat) w an_overload →
         Checks (items flat) Γ e S t → BreaksSort Γ e S R.Unknown (w.name ∷ [])
-    form_of_no_type : {t : _} → Checks (items flat) Γ e S t → may_be_type (form e) ≡ false → BreaksSort Γ e S R.NoType []
+    form_of_no_type : {t : _} → Checks (items flat) Γ e S t → ((w : Reference) (p : Place) → ¬ (form e ≡ T.Var w p)) →
+        ((A : CType) → ¬ (IsType (items flat) e A)) → BreaksSort Γ e S R.NoType []
     too_many_values : {A w p : _} → form e ≡ T.Var (WholeName w) p → IsParameter (items flat) w A → most_values < count_of A →
         BreaksSort Γ e S R.ParamTooLarge (type_text A ∷ [])
 
   -- what is broken at a term before its parts are looked at
   pub data BreaksEarly (e : Term) : Mode → Rule → List (List ℕ) → Type 0 where
-    no_type_given : needs_type (form e) ≡ true → BreaksEarly e found R.NoType []
+    lambda_found : {xs b p : _} → form e ≡ T.Fun xs b p → BreaksEarly e found R.NoType []
+    table_lambda_found : {xs b p : _} → form e ≡ T.TabFun xs b p → BreaksEarly e found R.NoType []
+    table_found : {cs p : _} → form e ≡ T.TableOf None cs p → BreaksEarly e found R.NoType []
+    no_variant_found : {p : _} → form e ≡ T.Variants [] p → BreaksEarly e found R.NoType []
     lambda_is_no_function : {Γ Δ b m x xs ys p F A : _} → form e ≡ T.Fun xs b p → term_mode m ≡ given F →
         Binds function_in Γ xs F Δ (x ∷ ys) A → function_in (out-CType A) ≡ None →
         BreaksEarly e m R.NotFunction (type_text A ∷ [])
@@ -137,16 +102,14 @@ module _ (flat : Flat) where
       over_case : {b cs p A : _} → form e ≡ T.CaseOf b cs p → FoundFor flat b Γ A → IsOver A
       over_type : {a b p A : _} → form e ≡ T.TabType a b p → IsType (items flat) a A → IsOver A
 
-    -- branches that may be over texts: those of a case, and of a table that is selected from directly
-    pub data MayBeOverTexts : Type 0 where
-      in_case : {b cs p : _} → form e ≡ T.CaseOf b cs p → MayBeOverTexts
-      in_selection : r ≡ selected → MayBeOverTexts
-
     -- what is broken at a term once its parts were looked at
     pub data BreaksTerm : Rule → List (List ℕ) → Type 0 where
       undefined_parameter : {w : Whole} {p : _} → form e ≡ T.Var (WholeName w) p → Contains (items flat) (bare_parameter w) →
           BreaksTerm R.Unknown (w.name ∷ [])
-      no_first_branch : empty_mode (form e) (term_mode m) ≡ Some found → BreaksTerm R.NoType []
+      no_first_case : {b p : _} → form e ≡ T.CaseOf b [] p → m ≡ found → BreaksTerm R.NoType []
+      no_first_branch : {t p : _} → form e ≡ T.TableOf (Some t) [] p → value_mode (term_mode m) ≡ found → BreaksTerm R.NoType []
+      no_first_item : {t p : _} → form e ≡ T.TableList t [] p → value_mode (term_mode m) ≡ found → BreaksTerm R.NoType []
+      no_branch_over : {A p : _} → form e ≡ T.TableOf None [] p → m ≡ over A → BreaksTerm R.NoType []
       found_does_not_fit : {A B : _} → term_mode m ≡ given A → passes (form e) (out-CType A) ≡ false → FoundFor flat e Γ B →
           ((t : LinTerm) → ¬ (Checks (items flat) Γ e A t)) → BreaksTerm R.Mismatch (type_text A ∷ type_text B ∷ [])
       own_type_does_not_fit : {A U t : _} → r ≡ to_fit U → m ≡ given A → Checks (items flat) Γ e A t →
@@ -170,9 +133,10 @@ module _ (flat : Flat) where
           function_in (out-CType F) ≡ Some (A, B) → BreaksTerm R.FunctionHere []
       argument_not_finite : {A : _} → r ≡ finite_wanted → IsType (items flat) e A → is_finite A ≡ false →
           BreaksTerm R.NotFinite (type_text A ∷ [])
-      over_no_finite : {A : _} → IsOver A → is_finite A ≡ false → ¬ ((A ≡ str_type) × MayBeOverTexts) →
+      over_no_finite : {A : _} → IsOver A → is_finite A ≡ false →
+          (A ≡ str_type → (r ≢ selected) × ((b : Term) (cs : List (Case Term)) (p : Place) → ¬ (form e ≡ T.CaseOf b cs p))) →
           BreaksTerm R.NotFinite (type_text A ∷ [])
-      too_many_numbers : {f a n p q : _} → form e ≡ T.App f a p → is_ints (form f) ≡ true → form a ≡ T.Num n q →
+      too_many_numbers : {f a n p q s : _} → form e ≡ T.App f a p → form f ≡ T.Sort Sort-V.Ints s → form a ≡ T.Num n q →
           most_values < n + 1 → BreaksTerm R.ParamTooLarge (type_text (number_type n) ∷ [])
       over_too_many : {A : _} → IsOver A → is_finite A ≡ true → most_values < count_of A →
           BreaksTerm R.ParamTooLarge (type_text A ∷ [])
@@ -186,7 +150,10 @@ module _ (flat : Flat) where
 
   -- the type of a pattern that has one of its own
   pub data PatternHas (p : Pattern) : CType → Type 0 where
-    a_text : is_text_pattern (pattern_form p) ≡ true → PatternHas p str_type
+    a_text : {t q : _} → pattern_form p ≡ P.Text t q → PatternHas p str_type
+    a_character : {q : _} → pattern_form p ≡ P.One q → PatternHas p str_type
+    a_sequence : {a b q : _} → pattern_form p ≡ P.Seq a b q → PatternHas p str_type
+    a_repetition : {a q : _} → pattern_form p ≡ P.Star a q → PatternHas p str_type
     a_number : {n q : _} → pattern_form p ≡ P.Num n q → PatternHas p (number_type n)
     a_constructor : {m c ps q As B : _} → pattern_form p ≡ P.Con m (WholeName c) ps q → IsConstructorOf flat c As B →
         length ps ≤ length As → PatternHas p (functions (drop (length ps) As) B)
@@ -223,9 +190,9 @@ module _ (flat : Flat) where
 
   -- what is broken in the types of the judgement of that whole name, in a language
   pub data BreaksTypes (lang : List ℕ) (w : Whole) (j : Judgement) : Moment → Refusal → Type 0 where
-    needs_itself : {i k : _} {n : PlacedName} {ns rule : _} → Contains (items flat) i → Contains (items flat) k →
-        Contains (answers_to i) w → Contains (answers_to k) w → Rests (items flat) i k → placed_names j ≡ n ∷ ns →
-        cycle_rule j ≡ Some rule → BreaksTypes lang w j (0 ∷ 0 ∷ []) (refusal rule n.place (n.name ∷ []))
+    needs_itself : {i k : _} {n : PlacedName} {ns : _} → Contains (items_in lang w j) i → Contains (answers_to i) w →
+        Contains (items flat) k → Contains (answers_to k) w → Rests (items flat) i k → placed_names j ≡ n ∷ ns →
+        BreaksTypes lang w j (0 ∷ 0 ∷ []) (refusal (cycle_rule i) n.place (n.name ∷ []))
     overload_with_arguments : {ns x xs ds : _} → j ≡ J.Oper ns (x ∷ xs) (D.Overload ds) →
         BreaksTypes lang w j (0 ∷ 1 ∷ []) (refusal R.NoType (bind_place x) [])
     in_sites : {at r : _} → BreaksSites (judgement_sites lang w.name j) at r → BreaksTypes lang w j at r

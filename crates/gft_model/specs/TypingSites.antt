@@ -138,16 +138,11 @@ field_sites gs (Label xs t) = type_site data_wanted t ∷ []
 field_sites gs (TypedValue xs t e) =
     type_site data_wanted t ∷ map (λ x. site (option_map_or to_fit (field_of x gs) any_role) (by given (written t)) e) xs
 
--- locals, each seeing those before it, and the term that sees them all
-abbrev pub local_sites : List (Local Term) → Local Term → List Site
-local_sites before (Value xs e) = site data_wanted (after before (in_mode found)) e ∷ []
-local_sites before (Label xs t) = []
-local_sites before (TypedValue xs t e) =
-    site data_wanted (after before (in_mode (as_type sort_type))) t ∷ site any_role (after before (by given (written t))) e ∷ []
-
+-- locals as fields, each seeing those before it, and the term that sees them all
 abbrev pub let_sites : List (Local Term) → List (Local Term) → Mode → Term → List Site
 let_sites before [] m e = site any_role (after before (in_mode m)) e ∷ []
-let_sites before (l ∷ ls) m e = local_sites before l ++ let_sites (before ++ l ∷ []) ls m e
+let_sites before (l ∷ ls) m e =
+    map (λ (s : Site). record s { way = after before s.way }) (field_sites [] l) ++ let_sites (before ++ l ∷ []) ls m e
 
 -- a selection: for a table without its type the selector comes first
 abbrev pub select_sites : Layer → Term → Term → List Site
