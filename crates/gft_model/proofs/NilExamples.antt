@@ -2,6 +2,7 @@
 use Rattle.std.specs.Prelude.{◌≡◌, ◌≤◌, ℕ, zero, suc, Bool, true, false, List, [], ◌∷◌, codes, Contains, Option, Some, None, slice_get}
 use Rattle.std.specs.Str.{bytes_eq}
 use Rattle.std.proofs.Common.{inr, refl, sym, ap, ◌∙◌, subst, arith, rules}
+use Rattle.std.specs.Fmt.{decimal}
 use Rattle.gft_core.specs.declared.symbol.Sym.{Sym}
 use Rattle.gft_core.specs.declared.symbol.Sym.TheVariants.{Tok, Arg}
 use Rattle.gft_core.specs.declared.tree.Tree.{Tree, App, Int, Hole}
@@ -15,12 +16,12 @@ use Rattle.gft_model.specs.Skeleton.{HasSkeletonType}
 use Rattle.gft_model.specs.Typing as typing
 use Rattle.gft_model.specs.Typing.{HasType, IsAdmitted, empty}
 use Rattle.gft_model.specs.Brackets.{Piece, integer}
-use Rattle.gft_model.specs.Runs.{Strings, listed, applied, filled, number_at}
+use Rattle.gft_model.specs.Runs.{Strings, listed, applied, filled, word_at}
 use Rattle.gft_model.specs.RunStrings.{IsBracketedString, IsStringOf, application, number, none, more}
 use Rattle.gft_model.specs.Cut.{Cutting, cut_of, cut_step}
 use Rattle.gft_model.specs.Solutions.{IsSolution}
 use Rattle.gft_model.specs.Listing.{Language, IsListed}
-use Rattle.gft_model.specs.Sentences.{IsSentence, Begins, IsNext, any_integer}
+use Rattle.gft_model.specs.Sentences.{IsSentence, Begins, IsNext}
 use Rattle.gft_model.proofs.RunLemmas.{gives}
 use Rattle.gft_model.proofs.Grammars.{nil, nil_eng, ages, ages_eng, whole}
 use Rattle.gft_model.proofs.TreeLemmas.{filled-App, holes_of-App}
@@ -148,13 +149,13 @@ abbrev age_seven : Tree
 age_seven = App (codes "Age") (Int 7 ∷ [])
 
 abbrev age_gives : Strings
-age_gives = applied [] (number_at (1 ∷ []) 7 ∷ []) ((Tok (codes "age") ∷ Arg 0 0 ∷ []) ∷ [])
+age_gives = applied [] (word_at (1 ∷ []) integer (decimal 7) ∷ []) ((Tok (codes "age") ∷ Arg 0 0 ∷ []) ∷ [])
 
 age_is_no_hole : (k : ℕ) → ¬ IsHole age_seven k
 age_is_no_hole k e = let layers = outs-App (codes "Age") (Int 7 ∷ []) in cc
 
-integer_is_next : IsNext ages (IsBracketedString ages ages_eng 2) 2 (codes "age" ∷ []) any_integer
-integer_is_next = record {
+age_is_sentence : IsSentence ages (IsBracketedString ages ages_eng 2) 2 (codes "age" ∷ decimal 7 ∷ [])
+age_is_sentence = record {
   tree = age_seven;
   of_category = skeleton.HasSkeletonType.application (0, omega arith, refl) (outs-App _ _)
       (skeleton.more (skeleton.integer (outs-Int 7) (omega arith)) skeleton.none);
@@ -168,10 +169,16 @@ integer_is_next = record {
     ref = listed (0, omega arith, refl);
     string = refl;
   };
+  words_are = refl;
+}
+
+integer_is_next : IsNext ages (IsBracketedString ages ages_eng 2) 2 (codes "age" ∷ []) integer (decimal 7)
+unfolding age_is_sentence
+integer_is_next = record {
+  whole = codes "age" ∷ decimal 7 ∷ [];
+  sentence = age_is_sentence;
   before = _ ∷ [];
-  here = (integer, _);
   after = [];
   parts = refl;
   begins = refl;
-  is = refl;
 }

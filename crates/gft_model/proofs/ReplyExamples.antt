@@ -19,13 +19,13 @@ use Rattle.gft_model.specs.Listing.{IsListed, IsBefore}
 use Rattle.gft_model.specs.Replies.{FailsAt, Parses, Completes, AreNext}
 use Rattle.gft_model.specs.Replies as replies
 use Rattle.gft_model.specs.Runs.{filled}
-use Rattle.gft_model.specs.Sentences.{IsSentence, IsNext, Next, a_word, next_of}
+use Rattle.gft_model.specs.Sentences.{IsSentence, IsNext}
 use Rattle.gft_model.specs.Solutions.{IsSolution}
 use Rattle.gft_model.specs.Trees as trees
 use Rattle.gft_model.specs.Typing as typing
 use Rattle.gft_model.specs.Unsolved.{IsUnsolved, IsSolvable, ComesFirst, layer_at, MustHave, argument, IsWrongAt, unknown_fun, wrong_arity, wrong_category, function_named, wrong}
 use Rattle.gft_model.proofs.Grammars.{dead, whole}
-use Rattle.gft_model.proofs.SentenceExamples.{language, h, h_gives, h_string, yes_is_next, only_h, only_yes, no_words, first_of}
+use Rattle.gft_model.proofs.SentenceExamples.{language, h, h_gives, h_string, yes_is_next, only_h, only_yes, only_first}
 use Rattle.gft_model.proofs.SkeletonLaws.{skeleton}
 use Rattle.gft_model.proofs.TypingLemmas.{applies}
 use Rattle.gft_model.proofs.TreeLemmas.{filled-App, holes_of-App}
@@ -34,29 +34,21 @@ use Rattle.gft_model.proofs.TreeLemmas.{filled-App, holes_of-App}
 abbrev yes : List Piece
 yes = filled (h_gives ∷ []) whole
 
--- nothing but `yes` may come first
-only_next : {n : Next} → IsNext dead language 3 [] n → a_word (codes "yes") ≡ n
-only_next s =
-    let words : marked yes ≡ s.before ++ s.here ∷ s.after = ap marked (sym (only_yes s.of_category s.of_tree)) ∙ s.parts in
-    let first : (grammar, codes "yes") ≡ s.here = ap first_of words
-    ∙ ap (λ (ws : List (Mark × List ℕ)). first_of (ws ++ s.here ∷ s.after)) (no_words s.before s.begins) in
-    ap next_of first ∙ s.is
-
 -- one word is in order
 one_in_order : {A : Type 0} (R : A → A → Type 0) (x : A) → AllPairs R (x ∷ [])
 one_in_order R x i j d l m = absurd (omega (arith, l, m))
 
-may_come : {w : List ℕ} → Contains (codes "yes" ∷ []) w → IsNext dead language 3 [] (a_word w)
-may_come (zero, b, e) = subst (λ (w : List ℕ). IsNext dead language 3 [] (a_word w)) e yes_is_next
+may_come : {w : List ℕ} → Contains (codes "yes" ∷ []) w → IsNext dead language 3 [] grammar w
+may_come (zero, b, e) = subst (λ (w : List ℕ). IsNext dead language 3 [] grammar w) e yes_is_next
 may_come (suc k, b, e) = absurd (omega (arith, b))
 
 -- `complete ""` gives `"yes"`
 completes : Completes dead language 3 [] (a_line (codes "\"yes\"") ∷ [])
 completes = replies.next (codes "yes" ∷ []) false false (inl refl) (record {
-  all = λ w. (may_come, λ s. let is = only_next s in (0, omega arith, cc));
+  all = λ w. (may_come, λ s. (0, omega arith, ap (λ (v : Mark × List ℕ). v.1) (only_first s)));
   in_order = one_in_order IsBefore (codes "yes");
-  integers = (λ f. cc, λ s. let is = only_next s in cc);
-  texts = (λ f. cc, λ s. let is = only_next s in cc);
+  integers = (λ f. cc, λ s. let is = ap (λ (v : Mark × List ℕ). v.0) (only_first s.1) in cc);
+  texts = (λ f. cc, λ s. let is = ap (λ (v : Mark × List ℕ). v.0) (only_first s.1) in cc);
 })
 
 -- a sentence has the one word `yes`

@@ -8,7 +8,7 @@ use Rattle.gft_pmcfg.specs.declared.run.Run.TheOpen as layer
 use Rattle.gft_pmcfg.specs.declared.run.Run.TheVariants.{outs-App, outs-Hole}
 use Rattle.gft_pmcfg.specs.Layers.{by_layers-App, by_layers-Hole}
 use Rattle.gft_pmcfg.specs.Ranges.{is_concrete}
-use Rattle.gft_model.specs.Runs.{hole, unread, IsRun, IsRunFor, IsRef, listed, of_numbers, of_strings, yield_of, holes_of, IsInhabited, application, more, none, Strings, components_of, components_step, filled}
+use Rattle.gft_model.specs.Runs.{hole, unread, IsRun, IsRunFor, IsRef, listed, of_literals, yield_of, holes_of, IsInhabited, application, more, none, Strings, components_of, components_step, filled}
 use Rattle.gft_model.specs.Brackets.{erased}
 use Rattle.gft_model.proofs.RunLemmas.{components_of-App, all_none, all_one}
 use Rattle.gft_model.proofs.Grammars.{cyc, cyc_eng, gend, gend_eng, twice, twice_eng, dead, dead_eng, whole}
@@ -62,8 +62,7 @@ very_base_is_for_q = record {
 cyc_ref : {n : ℕ} {seq : List Sym} → IsRef cyc_eng n seq → seq ≡ whole
 cyc_ref (listed (zero, b, e)) = sym (ap (λ (r : Ref). r.seq) e)
 cyc_ref (listed (suc k, b, e)) = absurd (omega (arith, b))
-cyc_ref of_numbers = refl
-cyc_ref of_strings = refl
+cyc_ref (of_literals b) = refl
 
 -- `Very` of a hole is a run, but none for q: the component of its argument is needed
 very_hole_is_not_for_q : ¬ IsRunFor cyc_eng 2 (codes "q" ∷ []) (App 1 (Hole 2 ∷ []))

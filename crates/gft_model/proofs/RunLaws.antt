@@ -94,8 +94,7 @@ mutual
       → HasValue a c p t n vs → holes_of t ≡ []
       → (r : Run) × IsRun c r n × (tree_of a c r ≡ t) × (components_of c r p ≡ vs)
   run_of_value {t} (strings.hole {k} h b m) e = not_closed t k h e
-  run_of_value {t} (strings.hole_of_numbers {k} h b) e = not_closed t k h e
-  run_of_value {t} (strings.hole_of_strings {k} h b) e = not_closed t k h e
+  run_of_value {t} (strings.hole_of_literals {k} h b l) e = not_closed t k h e
   run_of_value {a} {c} {p} {t} (strings.HasValue.number {n} h b) e = (
     Int n,
     number (outs-Int n) b,

@@ -12,7 +12,7 @@ use Rattle.gft_pmcfg.specs.Layers.{by_layers-App}
 use Rattle.gft_model.specs.Trees.{IsApplication}
 use Rattle.gft_model.specs.Runs as runs
 use Rattle.gft_model.specs.Runs.{Strings, HasUnreadHoles, HaveUnreadHoles, IsApplied, IsOpen, applied, needed, components_of, components_step}
-use Rattle.gft_model.specs.RunStrings.{HasValue, HaveValues, hole, hole_of_numbers, hole_of_strings, number, string, application, none, more}
+use Rattle.gft_model.specs.RunStrings.{HasValue, HaveValues, hole, hole_of_literals, number, string, application, none, more}
 
 -- what gives an application its components
 pub record Gives (a : Abstract) (c : Concrete) (p : List ℕ) (g : List ℕ) (us : List Tree) (n : ℕ)
@@ -30,8 +30,7 @@ pub record Gives (a : Abstract) (c : Concrete) (p : List ℕ) (g : List ℕ) (us
 pub gives : {a : Abstract} {c : Concrete} {p : List ℕ} {t : Tree} {n : ℕ} {vs : Strings} (g : List ℕ)
     (us : List Tree) → IsApplication t g us → HasValue a c p t n vs → Gives a c p g us n vs
 gives g us e (hole h b m) = cc
-gives g us e (hole_of_numbers h b) = cc
-gives g us e (hole_of_strings h b) = cc
+gives g us e (hole_of_literals h b l) = cc
 gives g us e (number h b) = cc
 gives g us e (string h b) = cc
 gives {a} {c} {p} g us e (application {f} {ts} {prod} {args} h m o d) =

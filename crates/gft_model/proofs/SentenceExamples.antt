@@ -12,11 +12,11 @@ use Rattle.gft_pmcfg.specs.declared.concrete.Ref.{Ref}
 use Rattle.gft_model.specs.Trees.{IsHole, IsApplication}
 use Rattle.gft_model.specs.Skeleton.{HasSkeletonType, HaveSkeletonTypes, hole, integer, text, application, none, more, categories_of}
 use Rattle.gft_model.specs.Brackets.{Mark, grammar, Piece, marked, erased}
-use Rattle.gft_model.specs.Runs.{Strings, IsRef, listed, of_numbers, of_strings, applied, filled}
+use Rattle.gft_model.specs.Runs.{Strings, IsRef, listed, of_literals, applied, filled}
 use Rattle.gft_model.specs.RunStrings as strings
 use Rattle.gft_model.specs.RunStrings.{HasValue, IsBracketedString}
 use Rattle.gft_model.specs.Listing.{Language}
-use Rattle.gft_model.specs.Sentences.{IsSentence, Begins, IsNext, Next, a_word, any_integer, any_string, next_of}
+use Rattle.gft_model.specs.Sentences.{IsSentence, Begins, IsNext}
 use Rattle.gft_model.proofs.RunLemmas.{gives, no_values}
 use Rattle.gft_model.proofs.Grammars.{dead, dead_eng, whole}
 
@@ -50,19 +50,15 @@ h_string = record {
 pub yes_is_sentence : IsSentence dead language 3 (codes "yes" ∷ [])
 yes_is_sentence = record { tree = h; of_category = h_is_s; string = _; of_tree = h_string; words_are = refl }
 
-pub yes_is_next : IsNext dead language 3 [] (a_word (codes "yes"))
+pub yes_is_next : IsNext dead language 3 [] grammar (codes "yes")
+unfolding yes_is_sentence
 yes_is_next = record {
-  tree = h;
-  of_category = h_is_s;
-  string = _;
-  of_tree = h_string;
+  whole = codes "yes" ∷ [];
+  sentence = yes_is_sentence;
   before = [];
-  here =
-      (grammar, codes "yes");
   after = [];
   parts = refl;
   begins = refl;
-  is = refl;
 }
 
 mutual
@@ -114,8 +110,7 @@ only_ref : {n : ℕ} {seq : List Sym} → IsRef dead_eng n seq → seq ≡ whole
 only_ref (listed (zero, b, e)) = sym (ap (λ (r : Ref). r.seq) e)
 only_ref (listed (suc zero, b, e)) = sym (ap (λ (r : Ref). r.seq) e)
 only_ref (listed (suc (suc k), b, e)) = absurd (omega (arith, b))
-only_ref of_numbers = refl
-only_ref of_strings = refl
+only_ref (of_literals b) = refl
 
 -- a string of a closed tree of S is that of `h`
 pub only_yes : {t : Tree} {b : List Piece} → HasSkeletonType dead [] t 3 → language t b
@@ -130,12 +125,6 @@ only_yes d s =
     s.string ∙ ap (λ (vs : Strings). filled (vs ∷ []) s.seq) components
     ∙ ap (λ (seq : List Sym). filled (h_gives ∷ []) seq) (only_ref s.ref)
 
--- whether what may stand next is the word `yes`
-abbrev is_yes : Next → Bool
-is_yes (a_word w) = bytes_eq w (codes "yes")
-is_yes any_integer = false
-is_yes any_string = false
-
 -- the first of the marked words, or one that is none
 abbrev pub first_of : List (Mark × List ℕ) → Mark × List ℕ
 first_of ws = slice_index_or ws 0 (grammar, [])
@@ -145,15 +134,19 @@ pub no_words : (ws : List (Mark × List ℕ)) → map (λ (w : Mark × List ℕ)
 no_words [] e = refl
 no_words (w ∷ ws) e = cc
 
+-- what may stand first is `yes`
+pub only_first : {mark : Mark} {w : List ℕ} → IsNext dead language 3 [] mark w 
+    → ◌≡◌ {A = Mark × List ℕ} (grammar, codes "yes") (mark, w)
+only_first {mark} {w} s =
+    let words : marked (filled (h_gives ∷ []) whole) ≡ s.before ++ (mark, w) ∷ s.after =
+    ap marked (sym (only_yes s.sentence.of_category s.sentence.of_tree)) ∙ s.parts in
+    ap first_of words
+    ∙ ap (λ (ws : List (Mark × List ℕ)). first_of (ws ++ (mark, w) ∷ s.after)) (no_words s.before s.begins)
+
 -- a word that leads only to a category without trees may not stand next
-no_is_not_next : ¬ IsNext dead language 3 [] (a_word (codes "no"))
+no_is_not_next : ¬ IsNext dead language 3 [] grammar (codes "no")
 no_is_not_next s =
-    let words : marked (filled (h_gives ∷ []) whole) ≡ s.before ++ s.here ∷ s.after =
-    ap marked (sym (only_yes s.of_category s.of_tree)) ∙ s.parts in
-    let nothing : s.before ≡ [] = no_words s.before s.begins in
-    let first : (grammar, codes "yes") ≡ s.here = ap first_of words
-    ∙ ap (λ (ws : List (Mark × List ℕ)). first_of (ws ++ s.here ∷ s.after)) nothing in
-    let wrong : true ≡ false = ap (λ (w : Mark × List ℕ). is_yes (next_of w)) first ∙ ap is_yes s.is in cc
+    let wrong : true ≡ false = ap (λ (w : Mark × List ℕ). bytes_eq w.1 (codes "yes")) (only_first s) in cc
 
 -- no words that begin with it are a sentence
 no_begins_nothing : ¬ Begins dead language 3 (codes "no" ∷ [])

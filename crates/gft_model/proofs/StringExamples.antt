@@ -11,7 +11,7 @@ use Rattle.gft_pmcfg.specs.declared.concrete.Prod.{Prod}
 use Rattle.gft_pmcfg.specs.declared.concrete.Ref.{Ref}
 use Rattle.gft_model.specs.Trees.{IsHole}
 use Rattle.gft_model.specs.Brackets.{Piece, erased}
-use Rattle.gft_model.specs.Runs.{Strings, IsRef, listed, of_numbers, of_strings, applied, filled}
+use Rattle.gft_model.specs.Runs.{Strings, IsRef, listed, of_literals, applied, filled}
 use Rattle.gft_model.specs.RunStrings.{HasValue, HaveValues, application, none, more, IsBracketedString, IsStringOf}
 use Rattle.gft_model.proofs.RunLemmas.{Gives, gives, only_value, no_values}
 use Rattle.gft_model.proofs.Grammars.{twice, twice_eng, whole}
@@ -63,8 +63,7 @@ only_ref : {n : ℕ} {seq : List Sym} → IsRef twice_eng n seq → seq ≡ whol
 only_ref (listed (zero, b, e)) = sym (ap (λ (r : Ref). r.seq) e)
 only_ref (listed (suc zero, b, e)) = sym (ap (λ (r : Ref). r.seq) e)
 only_ref (listed (suc (suc k), b, e)) = absurd (omega (arith, b))
-only_ref of_numbers = refl
-only_ref of_strings = refl
+only_ref (of_literals b) = refl
 
 -- the words of two
 abbrev first_is_a : List (List ℕ) → Bool

@@ -5,9 +5,7 @@ use Rattle.std.specs.Str.{bytes_eq}
 
 -- what a word belongs to: the terms of the grammar, an integer literal or a string literal
 pub data Mark : Type 0 where
-  grammar : Mark
-  integer : Mark
-  text : Mark
+  grammar integer text : Mark
 
 -- a word with its mark, or one end of the bracket of a position
 pub data Piece : Type 0 where

@@ -10,9 +10,7 @@ use Rattle.gft_model.specs.Typing.{HoleTypes, HasType, IsType, type_at, numbered
 
 -- a wrong number of indices or arguments, an index of another type, a production at the root of no run of a tree
 pub data Flaw : Type 0 where
-  arity : Flaw
-  index_type : Flaw
-  unproductive : Flaw
+  arity index_type unproductive : Flaw
 
 mutual
   -- the first flaw in a tree, its parts looked at first and from left to right

@@ -10,11 +10,12 @@ use Rattle.gft_pmcfg.specs.declared.signature.Abstract.{Abstract}
 use Rattle.gft_rules.specs.declared.refusal.Refusal.{Refusal}
 use Rattle.gft_rules.specs.declared.rule.Rule.TheVariants.{TooManyWords, TokenTooLong}
 use Rattle.gft_tree.specs.Trees.{quoted}
+use Rattle.gft_model.specs.Brackets as mark
 use Rattle.gft_model.specs.Brackets.{Piece, erased}
 use Rattle.gft_model.specs.Commands.{Command, Parse, Linearize, Complete, Item, a_tree, a_text, a_line, option_of, InTurn}
 use Rattle.gft_model.specs.Refusals.{placeless}
 use Rattle.gft_model.specs.Listing.{Language, IsBefore, IsListing}
-use Rattle.gft_model.specs.Sentences.{IsSentence, Begins, IsNext, a_word, any_integer, any_string}
+use Rattle.gft_model.specs.Sentences.{IsSentence, Begins, IsNext}
 use Rattle.gft_model.specs.States.{Kept, Languages, Loaded, category_number, language_of}
 use Rattle.gft_model.specs.Trees.{text_of}
 use Rattle.gft_model.specs.Unsolved.{IsUnsolved, IsSolvable}
@@ -62,10 +63,10 @@ pub data Parses (a : Abstract) (L : Language) (cat : ℕ) (words : List (List �
 
 -- exactly the words and classes of literals that may come next, the words in byte order
 pub record AreNext (a : Abstract) (L : Language) (cat : ℕ) (words tokens : List (List ℕ)) (integer text : Bool) : Type 0 where
-  pub all : (w : List ℕ) → Contains tokens w ↔ IsNext a L cat words (a_word w)
+  pub all : (w : List ℕ) → Contains tokens w ↔ IsNext a L cat words mark.grammar w
   pub in_order : AllPairs IsBefore tokens
-  pub integers : IsTrue integer ↔ IsNext a L cat words any_integer
-  pub texts : IsTrue text ↔ IsNext a L cat words any_string
+  pub integers : IsTrue integer ↔ ((w : List ℕ) × IsNext a L cat words mark.integer w)
+  pub texts : IsTrue text ↔ ((w : List ℕ) × IsNext a L cat words mark.text w)
 
 -- each word in quotes, then the classes of literals
 abbrev pub next_items : List (List ℕ) → Bool → Bool → List Item

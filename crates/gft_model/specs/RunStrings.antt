@@ -9,26 +9,22 @@ use Rattle.gft_pmcfg.specs.declared.signature.Abstract.{Abstract}
 use Rattle.gft_pmcfg.specs.declared.concrete.Prod.{Prod}
 use Rattle.gft_pmcfg.specs.declared.concrete.Concrete.{Concrete}
 use Rattle.gft_model.specs.Trees.{IsApplication, IsInteger, IsString, IsHole}
-use Rattle.gft_model.specs.Brackets.{Piece, word, grammar, bracketed, erased}
-use Rattle.gft_model.specs.Runs.{Strings, IsRef, IsOf, applied, filled, number_at, string_at}
+use Rattle.gft_model.specs.Brackets.{grammar, integer, text, Piece, word, erased}
+use Rattle.gft_model.specs.Runs.{Strings, IsRef, IsOf, applied, filled, word_at}
 
--- the token of a hole, as the one component that a def has
-abbrev pub token_of : ℕ → Strings
-token_of k = (word grammar (codes "?" ++ decimal k) ∷ []) ∷ []
-
--- a hole of `Int` or `String` gives its token
-abbrev pub token_at : List ℕ → ℕ → Strings
-token_at p k = bracketed p (word grammar (codes "?" ++ decimal k) ∷ []) ∷ []
+-- the token of a hole
+abbrev pub token_of : ℕ → List ℕ
+token_of k = codes "?" ++ decimal k
 
 mutual
-  -- the tree at the position p has these components in the case of the nonterminal
+  -- the tree at the position p has these components in the case of the nonterminal; the one component of the argument of a def
+  -- is the token of the hole
   pub data HasValue (a : Abstract) (c : Concrete) : List ℕ → Tree → ℕ → Strings → Type 0 where
     hole : {p t k n seqs : _} → IsHole t k → k < 2 ^ 32 → Contains c.defs (record { result = n; seqs = seqs }) →
-        HasValue a c p t n (applied p (token_of k ∷ []) seqs)
-    hole_of_numbers : {p t k : _} → IsHole t k → k < 2 ^ 32 → HasValue a c p t 0 (token_at p k)
-    hole_of_strings : {p t k : _} → IsHole t k → k < 2 ^ 32 → HasValue a c p t 1 (token_at p k)
-    number : {p t n : _} → IsInteger t n → n < 2 ^ 128 → HasValue a c p t 0 (number_at p n)
-    string : {p t w : _} → IsString t w → IsWord w → HasValue a c p t 1 (string_at p w)
+        HasValue a c p t n (applied p (((word grammar (token_of k) ∷ []) ∷ []) ∷ []) seqs)
+    hole_of_literals : {p t k n : _} → IsHole t k → k < 2 ^ 32 → n < 2 → HasValue a c p t n (word_at p grammar (token_of k))
+    number : {p t n : _} → IsInteger t n → n < 2 ^ 128 → HasValue a c p t 0 (word_at p integer (decimal n))
+    string : {p t w : _} → IsString t w → IsWord w → HasValue a c p t 1 (word_at p text w)
     application : {p t : _} {f : Fun} {ts : _} {prod : Prod} {args : _} → IsApplication t f.name ts → Contains c.prods prod →
         slice_get a.funs prod.fun ≡ Some f → HaveValues a c p 0 ts prod.args args →
         HasValue a c p t prod.result (applied p args prod.seqs)

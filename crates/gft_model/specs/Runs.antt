@@ -19,7 +19,7 @@ use Rattle.gft_pmcfg.specs.declared.run.Run.TheOpen as layer
 use Rattle.gft_pmcfg.specs.Layers.{by_layers}
 use Rattle.gft_pmcfg.specs.Nonterminals.{nonterminals_of, category_of}
 use Rattle.gft_model.specs.Trees.{all_of}
-use Rattle.gft_model.specs.Brackets.{Piece, word, grammar, integer, text, bracketed, erased}
+use Rattle.gft_model.specs.Brackets.{Mark, grammar, integer, text, Piece, word, bracketed, erased}
 
 -- the run applies the production of number p to the runs rs
 abbrev pub IsApplied : Run → ℕ → List Run → Type 0
@@ -67,12 +67,9 @@ filled args (Arg i l ∷ seq) = component args i l ++ filled args seq
 abbrev pub applied : List ℕ → List Strings → List (List Sym) → Strings
 applied p args seqs = map (λ seq. bracketed p (filled args seq)) seqs
 
--- what a literal gives: its word
-abbrev pub number_at : List ℕ → ℕ → Strings
-number_at p n = bracketed p (word integer (decimal n) ∷ []) ∷ []
-
-abbrev pub string_at : List ℕ → List ℕ → Strings
-string_at p w = bracketed p (word text w ∷ []) ∷ []
+-- what one word gives, as that of a literal
+abbrev pub word_at : List ℕ → Mark → List ℕ → Strings
+word_at p mark w = bracketed p (word mark w ∷ []) ∷ []
 
 -- what the arguments from number i + 1 on give, each at its own position
 abbrev pub arguments_at : List ℕ → ℕ → List (List ℕ → Strings) → List Strings
@@ -86,8 +83,8 @@ sequences_at prods p = option_map_or (λ (q : Prod). q.seqs) (slice_get prods p)
 -- the components of a run whose root stands at a position; a hole has none
 abbrev pub components_step : Concrete → Run-F (List ℕ → Strings) → List ℕ → Strings
 components_step c (layer.App k args) p = applied p (arguments_at p 0 args) (sequences_at c.prods k)
-components_step c (layer.Int n) p = number_at p n
-components_step c (layer.Str w) p = string_at p w
+components_step c (layer.Int n) p = word_at p integer (decimal n)
+components_step c (layer.Str w) p = word_at p text w
 components_step c (layer.Hole n) p = []
 
 abbrev pub components_of : Concrete → Run → List ℕ → Strings
@@ -97,8 +94,7 @@ components_of c = by_layers (List ℕ → Strings) (components_step c)
 -- lists
 pub data IsRef (c : Concrete) : ℕ → List Sym → Type 0 where
   listed : {n seq : _} → Contains c.refs (record { arg = n; seq = seq }) → IsRef c n seq
-  of_numbers : IsRef c 0 (Arg 0 0 ∷ [])
-  of_strings : IsRef c 1 (Arg 0 0 ∷ [])
+  of_literals : {n : _} → n < 2 → IsRef c n (Arg 0 0 ∷ [])
 
 -- the string of a run under a ref, and its words
 abbrev pub string_of : Concrete → List Sym → Run → List Piece

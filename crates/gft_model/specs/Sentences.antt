@@ -3,7 +3,7 @@ use Rattle.std.specs.Prelude.{◌≡◌, ℕ, List, [], ◌∷◌, ◌++◌, map
 use Rattle.gft_core.specs.declared.tree.Tree.{Tree}
 use Rattle.gft_pmcfg.specs.declared.signature.Abstract.{Abstract}
 use Rattle.gft_model.specs.Skeleton.{IsSkeletonTree}
-use Rattle.gft_model.specs.Brackets.{Mark, grammar, integer, text, Piece, erased, marked}
+use Rattle.gft_model.specs.Brackets.{Mark, Piece, erased, marked}
 use Rattle.gft_model.specs.Listing.{Language}
 
 -- the words are a string of a skeleton tree of the category
@@ -19,28 +19,12 @@ abbrev pub Begins : Abstract → Language → ℕ → List (List ℕ) → Type 0
 Begins a language cat words = (words ≡ []) ⊎ ((rest : List (List ℕ)) × IsSentence a language cat (words
     ++ rest))
 
--- what may stand next: a word of the grammar, any integer or any string
-pub data Next : Type 0 where
-  a_word : List ℕ → Next
-  any_integer : Next
-  any_string : Next
-
--- a word with its mark as what may stand next
-abbrev pub next_of : Mark × List ℕ → Next
-next_of (grammar, w) = a_word w
-next_of (integer, w) = any_integer
-next_of (text, w) = any_string
-
--- the item stands right after the words in a string of a skeleton tree of the category that begins with them
-pub record IsNext (a : Abstract) (language : Language) (cat : ℕ) (words : List (List ℕ))
-    (next : Next) : Type 0 where
-  pub tree : Tree
-  pub of_category : IsSkeletonTree a tree cat
-  pub string : List Piece
-  pub of_tree : language tree string
+-- the word with its mark stands right after the words in a string of a skeleton tree of the category that begins with them
+pub record IsNext (a : Abstract) (language : Language) (cat : ℕ) (words : List (List ℕ)) (mark : Mark)
+    (word : List ℕ) : Type 0 where
+  pub whole : List (List ℕ)
+  pub sentence : IsSentence a language cat whole
   pub before : List (Mark × List ℕ)
-  pub here : Mark × List ℕ
   pub after : List (Mark × List ℕ)
-  pub parts : marked string ≡ before ++ here ∷ after
+  pub parts : marked sentence.string ≡ before ++ (mark, word) ∷ after
   pub begins : map (λ (w : Mark × List ℕ). w.1) before ≡ words
-  pub is : next_of here ≡ next

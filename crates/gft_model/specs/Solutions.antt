@@ -4,6 +4,7 @@ use Rattle.gft_core.specs.declared.tree.Tree.{Tree, Hole}
 use Rattle.gft_pmcfg.specs.declared.signature.AType.{AType}
 use Rattle.gft_pmcfg.specs.declared.signature.Cat.{Cat}
 use Rattle.gft_pmcfg.specs.declared.signature.Abstract.{Abstract}
+use Rattle.gft_tree.specs.Trees.{greatest}
 use Rattle.gft_model.specs.Trees.{IsHole, IsInstance, holes_of}
 use Rattle.gft_model.specs.Typing.{HasType, IsAdmitted, IsTyped, type_at, numbered_from}
 
@@ -29,11 +30,6 @@ abbrev pub holes_from : ℕ → ℕ → List Tree
 holes_from k zero = []
 holes_from k (suc n) = Hole k ∷ holes_from (suc k) n
 
--- the highest number of a hole, where they are numbered from 1
-abbrev pub last_hole : ℕ → List ℕ → ℕ
-last_hole last [] = last
-last_hole last (k ∷ ks) = if nat_lt last k then last_hole k ks else last_hole last ks
-
 -- the type of a solution and those of its holes in the order of their numbers
 pub data HasSolvedTypes (a : Abstract) (cat : ℕ) (solution : Tree) : AType → List AType → Type 0 where
   -- one hole has its category, with a further hole for each index, numbered after it in the order of the
@@ -43,6 +39,6 @@ pub data HasSolvedTypes (a : Abstract) (cat : ℕ) (solution : Tree) : AType →
       (record { cat = cat; args = holes_from 2 (length category.context) } ∷ map
       (type_at (holes_from 2 (length category.context))) category.context)
   -- another tree has the type that its own holes give
-  other : {type types : _} → ((k : ℕ) → ¬ IsHole solution k) → length types ≡ last_hole 0 (holes_of solution) →
+  other : {type types : _} → ((k : ℕ) → ¬ IsHole solution k) → length types ≡ greatest (holes_of solution) →
       IsAdmitted a (numbered_from 1 types) → HasType a (numbered_from 1 types) solution type →
       HasSolvedTypes a cat solution type types
