@@ -17,7 +17,7 @@ use Rattle.gft_tree.specs.Spelling.{Spells}
 use Rattle.gft_tree.specs.Trees.{quoted}
 use Rattle.gft_tree.proofs.AnswerLemmas.{spells_reads}
 use Rattle.gft_core.specs.declared.tree.Tree.{Tree}
-use Rattle.gft_model.specs.Commands.{Verb, Argument, Nothing, Files, Given, a_tree, a_text, words_in, AreFileNames, of_import, of_write_portable, tree_rule, Command, Read, IsArgument, files, of_empty, of_quit, to_parse, to_complete, to_linearize, by_name, all, bare, HasBadArgument, of_tree, other, called, ReadsCommand, not_called, argument_refused, read, InTurn, none, more, refused, refused_later, AreJoined, ReadsCommands, ReadsPipe, pipe, bad_pipe, pipe_refused, ReadsLine, argument_of, options_of, pipes_of}
+use Rattle.gft_model.specs.Commands.{Verb, Argument, Nothing, FileNames, Given, a_tree, a_text, words_in, AreFileNames, of_import, of_write_portable, tree_rule, Command, Read, IsArgument, files, of_empty, of_quit, to_parse, to_complete, to_linearize, by_name, all, bare, HasBadArgument, of_tree, other, called, ReadsCommand, not_called, argument_refused, read, InTurn, none, more, refused, refused_later, AreJoined, ReadsCommands, ReadsPipe, pipe, bad_pipe, pipe_refused, ReadsLine, argument_of, options_of, pipes_of}
 use Rattle.gft_model.specs.Refusals.{placeless}
 
 -- what each gives in turn is determined where each by itself is
@@ -100,7 +100,7 @@ quoted_once v w e = let h = sym (inner_of v) ∙ ap (λ q. inner (drop 1 q)) e �
 
 -- the argument of a command
 files_once : {later : Bool} {verb : Verb} {names : List (List ℕ)} {text : List ℕ} {b : Argument} → AreFileNames verb names
-    → IsArgument later verb text b → text ≢ [] → b ≡ Files (words_in text)
+    → IsArgument later verb text b → text ≢ [] → b ≡ FileNames (words_in text)
 files_once (of_import h) (files e) n = refl
 files_once (of_write_portable h) (files e) n = refl
 files_once h (bare l) n = absurd (n refl)

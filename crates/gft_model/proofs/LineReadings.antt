@@ -13,7 +13,7 @@ use Rattle.gft_tree.specs.Reading.{read_on, start}
 use Rattle.gft_tree.specs.Trees.{quoted}
 use Rattle.gft_tree.specs.declared.error.TreeErr.{TreeErr}
 use Rattle.gft_tree.proofs.AnswerLemmas.{is_read, is_refused}
-use Rattle.gft_model.specs.Commands.{Verb, Import, Empty, Quit, Parse, Linearize, Complete, AbstractInfo, WritePortable, Argument, Nothing, Files, Given, Name, Command, Read, words_in, EndsIn, source_ending, portable_ending, IsFileName, AreFileNames, of_import, of_write_portable, IsArgument, files, of_empty, of_quit, to_parse, to_complete, to_linearize, by_name, all, bare, HasBadArgument, of_tree, other, called, ReadsCommand, not_called, argument_refused, read, InTurn, none, more, refused, refused_later, TakesUp, AreJoined, last, next, in_pipe, commands_of, parts, quoted_parts, kept_parts, ReadsCommands, ReadsPipe, pipe, bad_pipe, pipe_refused, pipes_of, ReadsLine, argument_of}
+use Rattle.gft_model.specs.Commands.{Verb, Import, Empty, Quit, Parse, Linearize, Complete, AbstractInfo, WritePortable, Argument, Nothing, FileNames, Given, Name, Command, Read, words_in, EndsIn, source_ending, portable_ending, AreFileNames, of_import, of_write_portable, IsArgument, files, of_empty, of_quit, to_parse, to_complete, to_linearize, by_name, all, bare, HasBadArgument, of_tree, other, called, ReadsCommand, not_called, argument_refused, read, InTurn, none, more, refused, refused_later, TakesUp, AreJoined, last, next, in_pipe, parts, quoted_parts, kept_parts, ReadsCommands, ReadsPipe, pipe, bad_pipe, pipe_refused, pipes_of, ReadsLine, argument_of}
 use Rattle.gft_model.specs.Commands as commands
 use Rattle.gft_model.proofs.CommandLaws.{inner, inner_of}
 
@@ -53,6 +53,9 @@ quoted_or_not text = by_inner (inner (drop 1 text)) refl where
 -- what holds or does not
 abbrev Decided : Type 0 → Type 0
 Decided P = P ⊎ (P → ⊥)
+
+abbrev IsFileName : List ℕ → Type 0
+IsFileName name = EndsIn source_ending name ⊎ EndsIn portable_ending name
 
 -- file names are of the form of a command or not
 file_name_or_not : (name : List ℕ) → Decided (IsFileName name)
@@ -96,14 +99,14 @@ module _ (later : Bool) where
   IsWritten text = later ≡ true → text ≢ []
 
   import_told : (text : List ℕ) → IsWritten text → Told later Import text
-  import_told text l = ⊎_elim {C = Told later Import text} (λ d. inl (Files (words_in text), files d))
+  import_told text l = ⊎_elim {C = Told later Import text} (λ d. inl (FileNames (words_in text), files d))
       (λ n. inr (_, other (λ e. cc) (λ a d. n (names_of l d)))) (import_names (words_in text)) where
         names_of : {text : List ℕ} {a : Argument} → IsWritten text → IsArgument later Import text a → AreFileNames Import (words_in text)
         names_of l (files d) = d
         names_of l (bare m) = absurd (l m refl)
 
   write_told : (text : List ℕ) → IsWritten text → Told later WritePortable text
-  write_told text l = ⊎_elim {C = Told later WritePortable text} (λ d. inl (Files (words_in text), files d))
+  write_told text l = ⊎_elim {C = Told later WritePortable text} (λ d. inl (FileNames (words_in text), files d))
       (λ n. inr (_, other (λ e. cc) (λ a d. n (names_of l d)))) (write_names (words_in text)) where
         names_of : {text : List ℕ} {a : Argument} → IsWritten text → IsArgument later WritePortable text a
             → AreFileNames WritePortable (words_in text)
@@ -240,7 +243,7 @@ takes_up_or_not Linearize WritePortable = inr (λ d. elim d [ ])
 
 bare_or_not : (a : Argument) → Decided (a ≡ Nothing)
 bare_or_not Nothing = inl refl
-bare_or_not (Files names) = inr (λ e. cc)
+bare_or_not (FileNames names) = inr (λ e. cc)
 bare_or_not (Given item) = inr (λ e. cc)
 bare_or_not (Name name) = inr (λ e. cc)
 
@@ -264,10 +267,10 @@ joined_or_not c (d ∷ cs) = by_parts (takes_up_or_not c.verb d.verb) (bare_or_n
   by_parts (inl t) (inl b) (inr n) = inr (λ h. n (others h))
 
 pipe_read : (text : List ℕ) → (r : Read) × ReadsPipe text r
-pipe_read text = let all = in_turn (λ c. command_read c.0 c.1) (in_pipe (commands_of text)) in by_result all.0 all.1 where
+pipe_read text = let all = in_turn (λ c. command_read c.0 c.1) (in_pipe (parts 124 text)) in by_result all.0 all.1 where
   by_result : (p : Result (List Command) Refusal) → ReadsCommands text p → (r : Read) × ReadsPipe text r
   by_result (Err r) d = (_, pipe_refused d)
-  by_result (Ok []) d = absurd (some_commands (commands_of text) (some_parts 124 text) d)
+  by_result (Ok []) d = absurd (some_commands (parts 124 text) (some_parts 124 text) d)
   by_result (Ok (c ∷ cs)) d =
       ⊎_elim {C = (r : Read) × ReadsPipe text r} (λ j. (_, pipe d j)) (λ n. (_, bad_pipe d n)) (joined_or_not c cs)
 

@@ -81,7 +81,7 @@ replaced = refl
 
 -- its file is written
 tiny_written : (S : Sources) (files : Files) → Does S (record { state = tiny_state; files = files }) WritePortable
-    (commands.Files (codes "T.gft" ∷ []))
+    (commands.FileNames (codes "T.gft" ∷ []))
     (replying (record { state = tiny_state; files = insert files (codes "T.gft") (file_of tiny) })
     (codes "wrote T.gft 133 bytes" ∷ []))
 unfolding digits
@@ -89,7 +89,7 @@ tiny_written S files = writes (tiny, loaded refl (file refl, tt), tiny_is_read) 
 
 -- where the save fails, the state stays and the reply names the file; here its content is as before
 tiny_not_saved : (S : Sources) (files : Files) → Does S (record { state = tiny_state; files = files }) WritePortable
-    (commands.Files (codes "T.gft" ∷ [])) (record {
+    (commands.FileNames (codes "T.gft" ∷ [])) (record {
       reply = codes "refused CannotWrite: T.gft" ++ 10 ∷ [];
       refused = true;
       failures = 1;

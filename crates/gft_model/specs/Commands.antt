@@ -35,7 +35,7 @@ pub data Item : Type 0 where
 -- what a command works on: nothing, file names, a tree or a text, or a name
 pub data Argument : Type 0 where
   Nothing : Argument
-  Files : List (List ℕ) → Argument
+  FileNames : List (List ℕ) → Argument
   Given : Item → Argument
   Name : List ℕ → Argument
 
@@ -71,21 +71,11 @@ abbrev mutual
   kept_parts separator [] = [] ∷ []
   kept_parts separator (c ∷ cs) = with_first c (quoted_parts separator cs)
 
--- white space alone
-abbrev pub is_blank : List ℕ → Bool
-is_blank cs = list_all is_whitespace cs
-
--- a line that begins with two hyphens
-abbrev pub is_comment : List ℕ → Bool
-is_comment line = bytes_eq (take 2 line) (codes "--")
-
--- the pipes of a line, between semicolons, that are not blank; a comment has none
+-- the pipes of a line, between semicolons, that are not white space alone; a line that begins with two hyphens is a comment
+-- and has none
 abbrev pub pipes_of : List ℕ → List (List ℕ)
-pipes_of line = if is_comment line then [] else filter (λ pipe. not (is_blank pipe)) (parts 59 line)
-
--- the commands of a pipe, between bars
-abbrev pub commands_of : List ℕ → List (List ℕ)
-commands_of pipe = parts 124 pipe
+pipes_of line =
+    if bytes_eq (take 2 line) (codes "--") then [] else filter (λ pipe. not (list_all is_whitespace pipe)) (parts 59 line)
 
 -- what stands after so many words and white space
 abbrev pub after_words : ℕ → List ℕ → List ℕ
@@ -162,24 +152,22 @@ words_in cs = map encode_utf8_all (runs is_whitespace cs)
 abbrev pub EndsIn : List ℕ → List ℕ → Type 0
 EndsIn ending name = (base : List ℕ) × (name ≡ base ++ ending)
 
--- a file that can be imported: a source or a portable file
+-- the endings of the two kinds of files that can be imported
 abbrev pub source_ending : List ℕ
 source_ending = codes ".gf"
 
 abbrev pub portable_ending : List ℕ
 portable_ending = codes ".gft"
 
-abbrev pub IsFileName : List ℕ → Type 0
-IsFileName name = EndsIn source_ending name ⊎ EndsIn portable_ending name
-
 -- the file names of a command are of its form
 pub data AreFileNames : Verb → List (List ℕ) → Type 0 where
-  of_import : {name names : _} → All IsFileName (name ∷ names) → AreFileNames Import (name ∷ names)
+  of_import : {name names : _} → All (λ file. EndsIn source_ending file ⊎ EndsIn portable_ending file) (name ∷ names) →
+      AreFileNames Import (name ∷ names)
   of_write_portable : {name : _} → EndsIn portable_ending name → AreFileNames WritePortable (name ∷ [])
 
 -- what a text says as the argument of a command of that form; a later command of a pipe may have none
 pub data IsArgument (later : Bool) : Verb → List ℕ → Argument → Type 0 where
-  files : {verb text : _} → AreFileNames verb (words_in text) → IsArgument later verb text (Files (words_in text))
+  files : {verb text : _} → AreFileNames verb (words_in text) → IsArgument later verb text (FileNames (words_in text))
   of_empty : IsArgument later Empty [] Nothing
   of_quit : IsArgument later Quit [] Nothing
   to_parse : {text : _} (inner : List ℕ) → text ≡ quoted inner → IsArgument later Parse text (Given (a_text (words_in inner)))
@@ -231,9 +219,9 @@ abbrev pub in_pipe : List (List ℕ) → List (Bool × List ℕ)
 in_pipe [] = []
 in_pipe (text ∷ texts) = (false, text) ∷ map (λ t. (true, t)) texts
 
--- the commands of a pipe, or the first refusal from left to right
+-- the commands of a pipe, between bars, or the first refusal from left to right
 abbrev pub ReadsCommands : List ℕ → Result (List Command) Refusal → Type 0
-ReadsCommands pipe = InTurn (λ c. ReadsCommand c.0 c.1) (in_pipe (commands_of pipe))
+ReadsCommands pipe = InTurn (λ c. ReadsCommand c.0 c.1) (in_pipe (parts 124 pipe))
 
 -- a command takes up what the one before it in a pipe hands on: trees, or texts
 pub data TakesUp : Verb → Verb → Type 0 where

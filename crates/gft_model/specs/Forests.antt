@@ -17,8 +17,7 @@ mutual
   pub data HoldsAt (f : Forest) (c : Concrete) : ℕ → Run → Type 0 where
     unpinned : {n : _} {node : Node} {r : _} → slice_get f.nodes n ≡ Some node → node.pins ≡ [] → IsOpen r node.nonterminal →
         HoldsAt f c n r
-    number : {n i : _} {node : Node} {r : _} → IsPinned f n node → Contains node.alts (alt.Int i) → IsNumber r i →
-        HoldsAt f c n r
+    number : {n i : _} {node : Node} {r : _} → IsPinned f n node → Contains node.alts (alt.Int i) → IsNumber r i → HoldsAt f c n r
     string : {n w : _} {node : Node} {r : _} → IsPinned f n node → Contains node.alts (alt.Str w) → IsText r w → HoldsAt f c n r
     application : {n p parts : _} {node : Node} {prod : Prod} {r rs : _} → IsPinned f n node →
         Contains node.alts (alt.App p parts) → slice_get c.prods p ≡ Some prod → IsApplied r p rs →

@@ -5,9 +5,8 @@ use Rattle.std.specs.Str.Parse.{digits_value}
 use Rattle.gft_io.specs.Lines.{lines_of}
 use Rattle.gft_io.specs.Outside.{Files}
 use Rattle.gft_rules.specs.declared.rule.Rule.TheVariants.{BadArgument}
-use Rattle.gft_model.specs.Commands.{Verb, Import, WritePortable, Pipe, AreFileNames, is_decimal_to, begins_with_hyphen}
+use Rattle.gft_model.specs.Commands.{Verb, Import, WritePortable, Pipe, AreFileNames, is_decimal_to, begins_with_hyphen, FileNames}
 use Rattle.gft_model.specs.Refusals.{placeless}
-use Rattle.gft_model.specs.Commands as argument
 use Rattle.gft_model.specs.Shell.{Held, Answer, replying, refusing, InOrder, PipeSteps, Steps}
 use Rattle.gft_model.specs.States.{Sources}
 
@@ -39,8 +38,7 @@ pub data Mode : Type 0 where
 -- the mode that the words of the program ask for, its name left out; a workload has from 1 to 10,000 sentences
 pub data Asks (words : List (List ℕ)) : Mode → Type 0 where
   for_session : {files : _} → AreWords (drop 1 words) [] [] files → Asks words (session files)
-  to_make : {out file files : _} → AreWords (drop 1 words) (out ∷ []) [] (file ∷ files) →
-      Asks words (make out (file ∷ files))
+  to_make : {out file files : _} → AreWords (drop 1 words) (out ∷ []) [] (file ∷ files) → Asks words (make out (file ∷ files))
   for_workload : {count : _} → AreWords (drop 1 words) [] (count ∷ []) [] → is_decimal_to 10000 count ≡ true →
       Asks words (workload (digits_value 10 count))
 
@@ -62,7 +60,7 @@ module _ (S : Sources) where
   -- what a command with file names of the program's words answers; a name of another ending is refused
   pub data FilesStep (held : Held) (verb : Verb) (names : List (List ℕ)) : Answer → Type 0 where
     good_names : {a : _} → AreFileNames verb names →
-        PipeSteps S held (Pipe (record { verb = verb; options = []; argument = argument.Files names } ∷ [])) a →
+        PipeSteps S held (Pipe (record { verb = verb; options = []; argument = FileNames names } ∷ [])) a →
         FilesStep held verb names a
     bad_names : ¬ AreFileNames verb names → FilesStep held verb names (refusing held (placeless BadArgument []) [])
 
@@ -78,5 +76,4 @@ module _ (S : Sources) where
     not_made : {out names : _} {a : Answer} → Asks words (make out names) → FilesStep (unbegun files) Import names a →
         a.refused ≡ true → Output words input files (a ∷ [])
     counted : {n : _} → Asks words (workload n) → Output words input files (replying (unbegun files) (workload_lines n) ∷ [])
-    wrong_call : ((mode : Mode) → ¬ Asks words mode) →
-        Output words input files (replying (unbegun files) (usage_line ∷ []) ∷ [])
+    wrong_call : ((mode : Mode) → ¬ Asks words mode) → Output words input files (replying (unbegun files) (usage_line ∷ []) ∷ [])

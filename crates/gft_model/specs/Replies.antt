@@ -41,32 +41,9 @@ text_refusal words =
     if nat_lt 512 (length words) then Some (placeless TooManyWords (decimal (length words) ∷ []))
     else option_map (λ i. placeless TokenTooLong (decimal (suc i) ∷ [])) (position (λ w. nat_lt 1024 (length w)) words)
 
--- the words before this one begin a sentence, and with it they do not
-pub record FailsAt (a : Abstract) (L : Language) (cat : ℕ) (words before : List (List ℕ)) (word : List ℕ) : Type 0 where
-  pub after : List (List ℕ)
-  pub parts : words ≡ before ++ word ∷ after
-  pub begin : Begins a L cat before
-  pub begin_not : ¬ Begins a L cat (before ++ word ∷ [])
-
+-- the line of the first word with which words begin no sentence, behind those before it
 abbrev pub failed_line : List (List ℕ) → List ℕ → List ℕ
 failed_line before word = codes "failed at word " ++ decimal (suc (length before)) ++ codes ": " ++ quoted word
-
--- the patterns that are listed, or one notice
-pub data Parses (a : Abstract) (L : Language) (cat : ℕ) (words : List (List ℕ)) (depth : ℕ) : List Item → Type 0 where
-  listed : {t ts : _} → IsListing a L cat words depth (t ∷ ts) → Parses a L cat words depth (map a_tree (t ∷ ts))
-  failed : (before : List (List ℕ)) (word : List ℕ) → FailsAt a L cat words before word →
-      Parses a L cat words depth (a_line (failed_line before word) ∷ [])
-  not_complete : Begins a L cat words → ¬ IsSentence a L cat words →
-      Parses a L cat words depth (a_line (codes "not complete") ∷ [])
-  no_tree : IsSentence a L cat words → IsListing a L cat words depth [] →
-      Parses a L cat words depth (a_line (codes "no tree") ∷ [])
-
--- exactly the words and classes of literals that may come next, the words in byte order
-pub record AreNext (a : Abstract) (L : Language) (cat : ℕ) (words tokens : List (List ℕ)) (integer text : Bool) : Type 0 where
-  pub all : (w : List ℕ) → Contains tokens w ↔ IsNext a L cat words mark.grammar w
-  pub in_order : AllPairs IsBefore tokens
-  pub integers : IsTrue integer ↔ ((w : List ℕ) × IsNext a L cat words mark.integer w)
-  pub texts : IsTrue text ↔ ((w : List ℕ) × IsNext a L cat words mark.text w)
 
 -- each word in quotes, then the classes of literals
 abbrev pub next_items : List (List ℕ) → Bool → Bool → List Item
@@ -74,12 +51,34 @@ next_items tokens integer text =
     map (λ w. a_line (quoted w)) tokens ++ (if integer then a_line (codes "<Int>") ∷ [] else [])
     ++ (if text then a_line (codes "<String>") ∷ [] else [])
 
--- what may come next, or the notice of the first word that does not fit
-pub data Completes (a : Abstract) (L : Language) (cat : ℕ) (words : List (List ℕ)) : List Item → Type 0 where
-  next : (tokens : List (List ℕ)) (integer text : Bool) → Begins a L cat words → AreNext a L cat words tokens integer text →
-      Completes a L cat words (next_items tokens integer text)
-  failed : (before : List (List ℕ)) (word : List ℕ) → FailsAt a L cat words before word →
-      Completes a L cat words (a_line (failed_line before word) ∷ [])
+-- over words in a category of a language
+module _ (a : Abstract) (L : Language) (cat : ℕ) (words : List (List ℕ)) where
+  -- the words before this one begin a sentence, and with it they do not
+  pub record FailsAt (before : List (List ℕ)) (word : List ℕ) : Type 0 where
+    pub after : List (List ℕ)
+    pub parts : words ≡ before ++ word ∷ after
+    pub begin : Begins a L cat before
+    pub begin_not : ¬ Begins a L cat (before ++ word ∷ [])
+
+  -- the patterns that are listed, or one notice
+  pub data Parses (depth : ℕ) : List Item → Type 0 where
+    listed : {t ts : _} → IsListing a L cat words depth (t ∷ ts) → Parses depth (map a_tree (t ∷ ts))
+    failed : (before : List (List ℕ)) (word : List ℕ) → FailsAt before word → Parses depth (a_line (failed_line before word) ∷ [])
+    not_complete : Begins a L cat words → ¬ IsSentence a L cat words → Parses depth (a_line (codes "not complete") ∷ [])
+    no_tree : IsSentence a L cat words → IsListing a L cat words depth [] → Parses depth (a_line (codes "no tree") ∷ [])
+
+  -- exactly the words and classes of literals that may come next, the words in byte order
+  pub record AreNext (tokens : List (List ℕ)) (integer text : Bool) : Type 0 where
+    pub all : (w : List ℕ) → Contains tokens w ↔ IsNext a L cat words mark.grammar w
+    pub in_order : AllPairs IsBefore tokens
+    pub integers : IsTrue integer ↔ ((w : List ℕ) × IsNext a L cat words mark.integer w)
+    pub texts : IsTrue text ↔ ((w : List ℕ) × IsNext a L cat words mark.text w)
+
+  -- what may come next, or the notice of the first word that does not fit
+  pub data Completes : List Item → Type 0 where
+    next : (tokens : List (List ℕ)) (integer text : Bool) → Begins a L cat words → AreNext tokens integer text →
+        Completes (next_items tokens integer text)
+    failed : (before : List (List ℕ)) (word : List ℕ) → FailsAt before word → Completes (a_line (failed_line before word) ∷ [])
 
 -- exactly the texts of a tree, each once, in byte order
 pub record AreTexts (L : Language) (t : Tree) (texts : List (List (List ℕ))) : Type 0 where

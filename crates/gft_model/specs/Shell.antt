@@ -13,9 +13,8 @@ use Rattle.gft_rules.specs.declared.refusal.Refusal.{Refusal}
 use Rattle.gft_rules.specs.declared.rule.Rule.{Rule}
 use Rattle.gft_rules.specs.declared.rule.Rule.TheVariants.{NoGrammar, NoLanguage, NoSuchLanguage, NoSuchCategory, UnknownName, CannotRead, CannotWrite, PortableTooLong, LineTooLong, LineNotUtf8}
 use Rattle.gft_model.specs.AbstractInfo.{judgement_lines}
-use Rattle.gft_model.specs.Commands.{Verb, Import, Empty, Quit, AbstractInfo, WritePortable, Argument, Nothing, Item, Given, Name, Command, Read, Pipe, Refused, keys_of, option_of, ReadsLine}
+use Rattle.gft_model.specs.Commands.{Verb, Import, Empty, Quit, AbstractInfo, WritePortable, Argument, Nothing, Item, Given, Name, Command, Read, Pipe, Refused, keys_of, option_of, ReadsLine, FileNames}
 use Rattle.gft_model.specs.Refusals.{placeless}
-use Rattle.gft_model.specs.Commands as argument
 use Rattle.gft_model.specs.Loading.{most_portable_bytes}
 use Rattle.gft_model.specs.PortableFile.{Reads}
 use Rattle.gft_model.specs.Replies.{line_of, category_for, languages_for, Runs}
@@ -103,10 +102,11 @@ module _ (S : Sources) where
   -- what a command does that stands alone in its pipe; after a save that failed the content of its file is open
   pub data Does (held : Held) : Verb → Argument → Answer → Type 0 where
     imports : {names new joined : _} → IsImported S held.files names new → Joins held.state new joined →
-        Does held Import (argument.Files names) (replying (record held { state = Some joined }) (grammar_line joined ∷ []))
+        Does held Import (FileNames names) (replying (record held { state = Some joined }) (grammar_line joined ∷ []))
     import_refused : {names loaded r : _} → S.refuses held.files names r loaded →
-        Does held Import (argument.Files names) (refusing held r loaded)
-    load_failed : {names file : _} → S.loads held.files names file → Does held Import (argument.Files names) (failing held CannotRead file)
+        Does held Import (FileNames names) (refusing held r loaded)
+    load_failed : {names file : _} → S.loads held.files names file →
+        Does held Import (FileNames names) (failing held CannotRead file)
     empties : Does held Empty Nothing (replying (record held { state = None }) [])
     quits : Does held Quit Nothing (record (replying held []) { ends = true })
     informs : {g : Loaded} → held.state ≡ Some g →
@@ -116,13 +116,13 @@ module _ (S : Sources) where
     unknown_name : {g : Loaded} {name : _} → held.state ≡ Some g → judgement_lines g.abs (bytes_eq name) ≡ [] →
         Does held AbstractInfo (Name name) (refusing held (placeless UnknownName (name ∷ [])) [])
     writes : {file bytes : _} → IsFileOf held.state bytes → length bytes ≤ most_portable_bytes →
-        Does held WritePortable (argument.Files (file ∷ []))
+        Does held WritePortable (FileNames (file ∷ []))
         (replying (record held { files = insert held.files file bytes }) (wrote_line file (length bytes) ∷ []))
     save_failed : {file bytes left : _} → IsFileOf held.state bytes → length bytes ≤ most_portable_bytes →
         KeepsOthers file held.files left →
-        Does held WritePortable (argument.Files (file ∷ [])) (failing (record held { files = left }) CannotWrite file)
+        Does held WritePortable (FileNames (file ∷ [])) (failing (record held { files = left }) CannotWrite file)
     portable_too_long : {file bytes : _} → IsFileOf held.state bytes → most_portable_bytes < length bytes →
-        Does held WritePortable (argument.Files (file ∷ [])) (refusing held (placeless PortableTooLong (file ∷ [])) [])
+        Does held WritePortable (FileNames (file ∷ [])) (refusing held (placeless PortableTooLong (file ∷ [])) [])
 
   -- what a pipe answers
   pub data PipeSteps (held : Held) : Read → Answer → Type 0 where
