@@ -1,6 +1,7 @@
 -- An answer is determined, where imports and compilation are.
-use Rattle.std.proofs.Common.{◌≡◌, ◌≢◌, refl, sym, ap, ◌∙◌, subst, ℕ, ◌<◌, ◌≤◌, List, [], ◌∷◌, true, false, arith, length, flat_map}
+use Rattle.std.proofs.Common.{◌≡◌, ◌≢◌, refl, sym, ap, ◌∙◌, subst, ℕ, ◌<◌, ◌≤◌, List, [], ◌∷◌, ◌++◌, slice_get, true, false, arith, length, flat_map}
 use Rattle.std.specs.Option.{option_map_or}
+use Rattle.std.specs.Fmt.{decimal}
 use Rattle.std.specs.Str.Parse.{digits_value}
 use Rattle.gft_rules.specs.declared.rule.Rule.TheVariants.{NoSuchLanguage, NoSuchCategory, UnknownName, PortableTooLong}
 use Rattle.std.specs.Cmp.{eq_by_cmp_equiv}
@@ -12,14 +13,14 @@ use Rattle.gft_io.specs.Outside.{Files}
 use Rattle.gft_pmcfg.specs.declared.concrete.Concrete.{Concrete}
 use Rattle.gft_pmcfg.specs.declared.grammar.Grammar.{Grammar}
 use Rattle.gft_rules.specs.declared.refusal.Refusal.{Refusal}
-use Rattle.gft_model.specs.Commands.{Verb, Argument, Item, Given, a_text, Command, option_of, InTurn, Read, EndsIn, portable_ending}
+use Rattle.gft_model.specs.Commands.{Verb, Argument, Item, Given, a_text, Command, option_of, InTurn, EndsIn, portable_ending}
 use Rattle.gft_model.specs.Refusals.{placeless}
 use Rattle.std.specs.FinMap.{get, insert, get-insert}
 use Rattle.gft_model.specs.AbstractInfo.{judgement_lines}
 use Rattle.gft_pmcfg.specs.declared.signature.Abstract.{Abstract}
 use Rattle.gft_model.specs.PortableFile.{file_bytes}
 use Rattle.gft_model.specs.Replies.{Makes, parsed, completed, too_long, linearized, unsolved, passed, Parses, Completes, Runs, done, next, refused, AreTexts, languages_for, line_of}
-use Rattle.gft_model.specs.Shell.{Held, Answer, Lacks, no_grammar, no_language, no_such_language, no_such_category, LacksFirst, here, later, IsFileOf, Does, PipeSteps, InOrder, Steps, IsAnswer, followed, whole, replying, refusing, ran, grammar_line, wrote_line}
+use Rattle.gft_model.specs.Shell.{Held, Answer, Lacks, no_grammar, no_language, no_such_language, no_such_category, LacksFirst, here, later, IsFileOf, Does, PipeSteps, InOrder, Steps, IsAnswer, followed, whole, replying, refusing, ran, grammar_line}
 use Rattle.gft_syntax.specs.declared.flat.Flat.{Flat}
 use Rattle.gft_model.specs.States.{Kept, Languages, Loaded, State, Sources, Gives, IsImported, Joins, IsCompiled, StandsFor, language_of, added, kept_grammar}
 use Rattle.gft_model.proofs.CommandLaws.{in_turn_once, zip_once, line_once}
@@ -101,9 +102,9 @@ module _ (g : Loaded) where
       let given = subst (λ x. AllZip (λ l. AreTexts (language_of g.abs x l) t) ls texts) cats d in
       ap (λ ts. Ok (flat_map (map a_text) ts))
       (zip_once (λ l v w. texts_once g.abs (language_of g.abs cat l) t v w) ls texts others given e)
-  makes_once (linearized texts v s k d) (unsolved u) = absurd (u.unsolvable s)
-  makes_once (unsolved u) (linearized texts v s k d) = absurd (u.unsolvable s)
-  makes_once (unsolved {t} u) (unsolved v) = ap Err (reason_once g.abs t u.reason v.reason)
+  makes_once (linearized texts v s k d) (unsolved u) = absurd (u.0 s)
+  makes_once (unsolved u) (linearized texts v s k d) = absurd (u.0 s)
+  makes_once (unsolved {t} u) (unsolved v) = ap Err (reason_once g.abs t u.1 v.1)
   makes_once passed passed = refl
 
   runs_once : {cs : List Command} {items : List Item} {p q : Result (List Item) Refusal} → Runs g cs items p
@@ -174,12 +175,12 @@ pub record IsDetermined (S : Sources) : Type 0 where
 
 module _ (S : Sources) (determined : IsDetermined S) where
   imported_once : {files : Files} {names : List (List ℕ)} {p q : Loaded} → IsImported S files names p
-      → IsImported S files names q
-      → p ≡ q
-  imported_once {files} {names} x y =
-      let parts = zip_once (determined.one_part files names) names (x.first ∷ x.others) (y.first ∷ y.others) x.given y.given in
-      let firsts : x.first ≡ y.first = cc in
-      let abs = x.abs ∙ ap (λ l. l.abs) firsts ∙ sym y.abs in
+      → IsImported S files names q → p ≡ q
+  imported_once {files} {names} {p} {q} x y =
+      let parts = zip_once (determined.one_part files names) names x.parts y.parts x.given y.given in
+      let found : Some p.abs ≡ Some q.abs
+      = sym x.abs ∙ ap (λ ps. slice_get (map (λ (l : Loaded). l.abs) ps) 0) parts ∙ y.abs in
+      let abs : p.abs ≡ q.abs = cc in
       let languages = x.languages ∙ ap (λ ps. added [] (flat_map (λ (l : Loaded). l.languages) ps)) parts ∙ sym y.languages in
       λ i. record { abs = abs i; languages = languages i }
 
@@ -231,7 +232,7 @@ module _ (S : Sources) (determined : IsDetermined S) where
       let same : g ≡ h = cc in absurd (j (ap (λ x. judgement_lines x.abs (bytes_eq name)) (sym same) ∙ i))
   does_once (Does.unknown_name e i) (Does.unknown_name f j) m n = refl
   does_once {held} (Does.writes {file} d l) (Does.writes e k) m n =
-      ap (λ b. replying (record held { files = insert held.files file b }) (wrote_line file (length b) ∷ [])) (file_once d e)
+      ap (λ b. replying (record held { files = insert held.files file b }) ((codes "wrote " ++ file ++ codes " " ++ decimal (length b) ++ codes " bytes") ∷ [])) (file_once d e)
   does_once (Does.writes d l) (Does.portable_too_long e k) m n = absurd (omega (arith, l, k, ap length (file_once d e)))
   does_once (Does.portable_too_long d l) (Does.writes e k) m n = absurd (omega (arith, l, k, ap length (file_once d e)))
   does_once (Does.portable_too_long d l) (Does.portable_too_long e k) m n = refl
@@ -254,7 +255,7 @@ module _ (S : Sources) (determined : IsDetermined S) where
   -- ANSWERS
 
   -- what a pipe answers where no load or save fails
-  pub pipe_once : {held : Held} {read : Read} {x y : Answer} → PipeSteps S held read x → x.failures ≡ 0
+  pub pipe_once : {held : Held} {read : Result (List Command) Refusal} {x y : Answer} → PipeSteps S held read x → x.failures ≡ 0
       → PipeSteps S held read y → y.failures ≡ 0 → x ≡ y
   pipe_once PipeSteps.refused e PipeSteps.refused f = refl
   pipe_once {held} (PipeSteps.lacking d) e (PipeSteps.lacking g) f = ap (λ r. refusing held r []) (lacks_first_once d g)

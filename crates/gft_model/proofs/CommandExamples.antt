@@ -1,6 +1,6 @@
 -- Worked examples of command lines.
 use Rattle.std.proofs.Common.{◌≡◌, ◌≢◌, refl, sym, ap, ◌∙◌, ℕ, List, [], ◌∷◌, true, false}
-use Rattle.std.specs.Prelude.{codes, bytes_eq, take, Some}
+use Rattle.std.specs.Prelude.{codes, bytes_eq, take, Some, Result, Ok, Err}
 use lib.Utf8
 use Rattle.ucd_derived.specs.Binary.{is_xid_start, is_xid_continue}
 use Rattle.ucd_derived.specs.XidStartRanges.{xid_start_ranges}
@@ -11,7 +11,8 @@ use Rattle.gft_rules.specs.declared.rule.Rule.TheVariants.{UnknownCommand, BadOp
 use Rattle.gft_tree.specs.Grammar as grammar
 use Rattle.gft_tree.specs.Lexemes as lexeme
 use Rattle.gft_tree.specs.Spelling.{Spells}
-use Rattle.gft_model.specs.Commands.{Verb, Empty, Parse, Linearize, AbstractInfo, Argument, Nothing, Command, Read, Pipe, Refused, parts, pipes_of, argument_of, bad_option, keys_of, IsArgument, files, of_empty, to_parse, to_linearize, bare, not_called, read, none, more, refused, AreJoined, last, next, ReadsPipe, pipe, bad_pipe, pipe_refused, ReadsLine}
+use Rattle.gft_rules.specs.declared.refusal.Refusal.{Refusal}
+use Rattle.gft_model.specs.Commands.{Verb, Empty, Parse, Linearize, AbstractInfo, Argument, Nothing, Command, parts, pipes_of, argument_of, bad_option, keys_of, IsArgument, files, of_empty, to_parse, to_linearize, bare, not_called, read, none, more, refused, AreJoined, last, next, ReadsPipe, pipe, bad_pipe, pipe_refused, ReadsLine}
 use Rattle.gft_model.specs.Refusals.{placeless}
 
 -- a command
@@ -51,32 +52,32 @@ unfolding is_xid_start is_xid_continue xid_start_ranges xid_continue_ranges in_r
 twice = refl
 
 -- `e`, and a name that is no command
-empties : ReadsPipe (codes " e ") (Pipe (command Empty [] Nothing ∷ []))
+empties : ReadsPipe (codes " e ") (Ok (command Empty [] Nothing ∷ []))
 empties = pipe (more (read refl of_empty) none) last
 
-unknown : ReadsPipe (codes " frob ") (Refused (placeless UnknownCommand (codes "frob" ∷ [])))
+unknown : ReadsPipe (codes " frob ") (Err (placeless UnknownCommand (codes "frob" ∷ [])))
 unfolding lib.Utf8.encode
 unknown = pipe_refused (refused (not_called refl))
 
 -- a refused pipe stands between two others
-abbrev pub empty : Read
-empty = Pipe (command Empty [] Nothing ∷ [])
+abbrev pub empty : Result (List Command) Refusal
+empty = Ok (command Empty [] Nothing ∷ [])
 
-pub line : ReadsLine (codes "e ; frob ; e") (empty ∷ Refused (placeless UnknownCommand (codes "frob" ∷ [])) ∷ empty ∷ [])
+pub line : ReadsLine (codes "e ; frob ; e") (empty ∷ Err (placeless UnknownCommand (codes "frob" ∷ [])) ∷ empty ∷ [])
 line =
     let first : ReadsPipe (codes "e ") empty = pipe (more (read refl of_empty) none) last in
     let third : ReadsPipe (codes " e") empty = pipe (more (read refl of_empty) none) last in
     (first, (unknown, (third, tt)))
 
-hyphens : ReadsPipe (codes " -- x") (Refused (placeless UnknownCommand (codes "--" ∷ [])))
+hyphens : ReadsPipe (codes " -- x") (Err (placeless UnknownCommand (codes "--" ∷ [])))
 unfolding lib.Utf8.encode
 hyphens = pipe_refused (refused (not_called refl))
 
 -- a blank command beside a bar has the empty name
-blank_command : ReadsPipe (codes "| e") (Refused (placeless UnknownCommand ([] ∷ [])))
+blank_command : ReadsPipe (codes "| e") (Err (placeless UnknownCommand ([] ∷ [])))
 blank_command = pipe_refused (refused (not_called refl))
 
-too_deep : ReadsPipe (codes "p -depth=65 \"a\"") (Refused (placeless BadOption (codes "-depth=65" ∷ [])))
+too_deep : ReadsPipe (codes "p -depth=65 \"a\"") (Err (placeless BadOption (codes "-depth=65" ∷ [])))
 unfolding is_xid_start is_xid_continue xid_start_ranges xid_continue_ranges in_ranges lib.Utf8.encode
 too_deep = pipe_refused (refused (not_called refl))
 
@@ -94,7 +95,7 @@ a_is_spelled = (
 not_joined : (argument : Argument) → ¬ AreJoined (command Linearize [] argument) (command AbstractInfo [] Nothing ∷ [])
 not_joined argument (next follows nothing others) = elim follows [ ]
 
-informs : ReadsPipe (codes "l a | ai") (Refused (placeless BadPipe []))
+informs : ReadsPipe (codes "l a | ai") (Err (placeless BadPipe []))
 informs = bad_pipe (more (read refl (to_linearize a_is_spelled))
     (more (read refl (bare refl)) none)) (not_joined _)
 

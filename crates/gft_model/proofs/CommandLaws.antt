@@ -17,7 +17,7 @@ use Rattle.gft_tree.specs.Spelling.{Spells}
 use Rattle.gft_tree.specs.Trees.{quoted}
 use Rattle.gft_tree.proofs.AnswerLemmas.{spells_reads}
 use Rattle.gft_core.specs.declared.tree.Tree.{Tree}
-use Rattle.gft_model.specs.Commands.{Verb, Argument, Nothing, FileNames, Given, a_tree, a_text, words_in, AreFileNames, of_import, of_write_portable, tree_rule, Command, Read, IsArgument, files, of_empty, of_quit, to_parse, to_complete, to_linearize, by_name, all, bare, HasBadArgument, of_tree, other, called, ReadsCommand, not_called, argument_refused, read, InTurn, none, more, refused, refused_later, AreJoined, ReadsCommands, ReadsPipe, pipe, bad_pipe, pipe_refused, ReadsLine, argument_of, options_of, pipes_of}
+use Rattle.gft_model.specs.Commands.{Verb, Argument, Nothing, FileNames, Given, a_tree, a_text, words_in, AreFileNames, of_import, of_write_portable, tree_rule, Command, IsArgument, files, of_empty, of_quit, to_parse, to_complete, to_linearize, by_name, all, bare, HasBadArgument, of_tree, other, called, ReadsCommand, not_called, argument_refused, read, InTurn, none, more, refused, refused_later, AreJoined, ReadsCommands, ReadsPipe, pipe, bad_pipe, pipe_refused, ReadsLine, argument_of, options_of, pipes_of}
 use Rattle.gft_model.specs.Refusals.{placeless}
 
 -- what each gives in turn is determined where each by itself is
@@ -194,7 +194,7 @@ joined_once {c} {d} {cs} {ds} e f g j =
 commands_once : (text : List ℕ) {p q : Result (List Command) Refusal} → ReadsCommands text p → ReadsCommands text q → p ≡ q
 commands_once text = in_turn_once (λ x p q d e. command_once d e)
 
-pipe_once : (text : List ℕ) (p q : Read) → ReadsPipe text p → ReadsPipe text q → p ≡ q
+pipe_once : (text : List ℕ) (p q : Result (List Command) Refusal) → ReadsPipe text p → ReadsPipe text q → p ≡ q
 pipe_once text p q (pipe d j) (pipe e k) = let h = commands_once text d e in cc
 pipe_once text p q (pipe d j) (bad_pipe e n) = absurd (n (joined_once refl refl (commands_once text d e) j))
 pipe_once text p q (pipe d j) (pipe_refused e) = let h = commands_once text d e in cc
@@ -206,5 +206,5 @@ pipe_once text p q (pipe_refused d) (bad_pipe e m) = let h = commands_once text 
 pipe_once text p q (pipe_refused d) (pipe_refused e) = let h = commands_once text d e in cc
 
 -- a line
-pub line_once : (line : List ℕ) (reads others : List Read) → ReadsLine line reads → ReadsLine line others → reads ≡ others
+pub line_once : (line : List ℕ) (reads others : List (Result (List Command) Refusal)) → ReadsLine line reads → ReadsLine line others → reads ≡ others
 line_once line reads others = zip_once pipe_once (pipes_of line) reads others

@@ -1,6 +1,6 @@
 -- Worked example of a whole answer: `l Dup A` over the language of Twice.
 use Rattle.std.proofs.Common.{◌≡◌, refl, sym, ap, ◌∙◌, ℕ, zero, suc, List, [], ◌∷◌, arith, rules, ⊎_elim}
-use Rattle.std.specs.Prelude.{codes, Some, None, length, Contains, AllPairs}
+use Rattle.std.specs.Prelude.{codes, Some, None, length, Contains, AllPairs, Ok}
 use Rattle.std.specs.Str.{chars}
 use lib.Utf8
 use Rattle.ucd_derived.specs.Binary.{is_xid_start, is_xid_continue}
@@ -17,7 +17,7 @@ use Rattle.gft_tree.specs.Lexemes as lexeme
 use Rattle.gft_tree.specs.Spelling.{Spells}
 use Rattle.gft_model.specs.Brackets.{Piece, erased}
 use Rattle.gft_model.specs.Commands as commands
-use Rattle.gft_model.specs.Commands.{Linearize, Given, a_tree, Command, Pipe, ReadsPipe, to_linearize}
+use Rattle.gft_model.specs.Commands.{Linearize, Given, a_tree, Command, ReadsPipe, to_linearize}
 use Rattle.gft_model.specs.Listing.{Language}
 use Rattle.gft_model.specs.Listing.{IsBefore}
 use Rattle.gft_model.specs.Replies.{AreTexts, linearized, next, done}
@@ -89,7 +89,7 @@ dup_is_spelled = (
 abbrev linearizes : Command
 linearizes = record { verb = Linearize; options = []; argument = Given (a_tree dup_a) }
 
-line : ReadsPipe (codes "l Dup A") (Pipe (linearizes ∷ []))
+line : ReadsPipe (codes "l Dup A") (Ok (linearizes ∷ []))
 line = commands.pipe (commands.more (commands.read refl (to_linearize dup_is_spelled))
     commands.none) commands.last
 

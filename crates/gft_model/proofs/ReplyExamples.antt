@@ -156,11 +156,11 @@ unsolvable s =
 
 -- `l nope` is refused
 unknown : IsUnsolved dead (App (codes "nope") []) (placeless UnknownFun (codes "nope" ∷ []))
-unknown = record {
-  unsolvable = unsolvable;
-  reason = wrong {p = []} {kind = 0} (unknown_fun (ap Some (outs-App _ _)) refl)
-      (λ q other s w. root_first q other);
-}
+unknown = (
+  unsolvable,
+  wrong {p = []} {kind = 0} (unknown_fun (ap Some (outs-App _ _)) refl)
+      (λ q other s w. root_first q other),
+)
 
 -- a sentence with a tree is not answered by a notice
 no_notice : ¬ Parses dead language 3 (codes "yes" ∷ []) 12 (a_line (codes "no tree") ∷ [])
@@ -194,4 +194,4 @@ not_wrong (wrong_category m c n) = no_demand m
 
 -- so `h` is solved, and not refused
 not_unsolved : {r : Refusal} → ¬ IsUnsolved dead h r
-not_unsolved u = u.unsolvable (h, solved)
+not_unsolved u = u.0 (h, solved)

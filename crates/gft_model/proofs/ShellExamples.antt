@@ -1,6 +1,6 @@
 -- Worked examples of answers to lines.
 use Rattle.std.proofs.Common.{◌≡◌, ◌≢◌, refl, ap, ℕ, List, [], ◌∷◌, ◌++◌, true, false, arith}
-use Rattle.std.specs.Prelude.{codes, Some, None, length, map}
+use Rattle.std.specs.Prelude.{codes, Some, None, length, map, Result, Ok}
 use Rattle.std.specs.FinMap.{insert}
 use Rattle.std.specs.Fmt.{digits}
 use Rattle.std.specs.Str.{chars}
@@ -9,7 +9,7 @@ use Rattle.gft_io.specs.Outside.{Files}
 use Rattle.gft_rules.specs.declared.refusal.Refusal.{Refusal}
 use Rattle.gft_rules.specs.declared.rule.Rule.TheVariants.{NoGrammar, NoSuchLanguage}
 use Rattle.gft_model.specs.Commands as commands
-use Rattle.gft_model.specs.Commands.{Verb, Import, Empty, Quit, Parse, WritePortable, Argument, Nothing, Given, a_text, Read, Pipe, keys_of}
+use Rattle.gft_model.specs.Commands.{Verb, Import, Empty, Quit, Parse, WritePortable, Argument, Nothing, Given, a_text, keys_of, Command}
 use Rattle.gft_model.specs.Refusals.{placeless}
 use Rattle.gft_model.specs.PortableFile.{file_of}
 use Rattle.gft_model.specs.Shell.{Held, grammar_line, refusing, replying, no_grammar, no_language, no_such_language, no_such_category, LacksFirst, here, later, Does, empties, quits, writes, save_failed, PipeSteps, done, lacking, InOrder, none, last, more, read, IsAnswer}
@@ -47,13 +47,13 @@ one_refusal S held =
 
 -- an empty session has no grammar
 nothing_to_parse : (S : Sources) (files : Files) → PipeSteps S (record { state = None; files = files })
-    (Pipe (command Parse [] (Given (a_text [])) ∷ []))
+    (Ok (command Parse [] (Given (a_text [])) ∷ []))
     (refusing (record { state = None; files = files }) (placeless NoGrammar []) [])
 nothing_to_parse S files = lacking (here (no_grammar refl (λ e. cc) (λ e. cc) (λ e. cc)))
 
 -- nothing runs after `quit`
-pub quits_first : (S : Sources) (held : Held) (reads : List Read)
-    → InOrder (PipeSteps S) held (Pipe (command Quit [] Nothing ∷ []) ∷ reads) (record (replying held []) { ends = true } ∷ [])
+pub quits_first : (S : Sources) (held : Held) (reads : List (Result (List Command) Refusal))
+    → InOrder (PipeSteps S) held (Ok (command Quit [] Nothing ∷ []) ∷ reads) (record (replying held []) { ends = true } ∷ [])
 quits_first S held reads = last (done (lacks_nothing (λ i m q. q refl) refl) quits) refl
 
 -- a session with the grammar of one sentence

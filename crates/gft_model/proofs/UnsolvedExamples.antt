@@ -130,7 +130,7 @@ unsolvable s =
 
 -- `l Do fan fan nope` is refused for its second argument, not for the unknown function after it
 refused : IsUnsolved home tree (placeless WrongCategory (codes "Action" ∷ codes "Kind" ∷ []))
-refused = record {
-  unsolvable = unsolvable;
-  reason = wrong {p = 2 ∷ []} {kind = 2} (wrong_category must_two has_two (λ e. absurd (omega (arith, e)))) first;
-}
+refused = (
+  unsolvable,
+  wrong {p = 2 ∷ []} {kind = 2} (wrong_category must_two has_two (λ e. absurd (omega (arith, e)))) first,
+)

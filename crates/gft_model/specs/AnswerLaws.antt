@@ -1,6 +1,6 @@
 -- Laws of command lines and answers.
 use Rattle.std.specs.FinMap.{insert}
-use Rattle.std.specs.Prelude.{◌≡◌, ℕ, List, Some}
+use Rattle.std.specs.Prelude.{◌≡◌, ℕ, List, Some, Result}
 use Rattle.gft_core.specs.declared.tree.Tree.{Tree}
 use Rattle.gft_pmcfg.specs.declared.signature.Abstract.{Abstract}
 use Rattle.gft_pmcfg.specs.declared.concrete.Concrete.{Concrete}
@@ -8,7 +8,7 @@ use Rattle.gft_pmcfg.specs.declared.grammar.Grammar.{Grammar}
 use Rattle.gft_rules.specs.declared.refusal.Refusal.{Refusal}
 use Rattle.gft_syntax.specs.declared.flat.Flat.{Flat}
 use Rattle.gft_io.specs.Outside.{Files}
-use Rattle.gft_model.specs.Commands.{Item, Read, ReadsLine, EndsIn, portable_ending}
+use Rattle.gft_model.specs.Commands.{Item, Command, ReadsLine, EndsIn, portable_ending}
 use Rattle.gft_model.specs.Import.{sources}
 use Rattle.gft_model.specs.Compiled.{Compiles}
 use Rattle.gft_model.specs.Loading.{HasFiles}
@@ -22,11 +22,13 @@ use Rattle.gft_model.specs.Unsolved.{IsWrongAt}
 
 -- the characters of a line are read in at most one way
 abbrev pub LineIsReadOnce : Type 0
-LineIsReadOnce = (line : List ℕ) (reads others : List Read) → ReadsLine line reads → ReadsLine line others → reads ≡ others
+LineIsReadOnce =
+    (line : List ℕ) (reads others : List (Result (List Command) Refusal)) → ReadsLine line reads → ReadsLine line others
+    → reads ≡ others
 
 -- and they are read in some way
 abbrev pub LineIsRead : Type 0
-LineIsRead = (line : List ℕ) → (reads : List Read) × ReadsLine line reads
+LineIsRead = (line : List ℕ) → (reads : List (Result (List Command) Refusal)) × ReadsLine line reads
 
 -- `parse` has at most one answer: patterns or one of the notices
 abbrev pub ParseAnswersOnce : Type 0

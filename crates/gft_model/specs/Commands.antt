@@ -45,11 +45,6 @@ pub record Command : Type 0 where
   pub options : List (List ℕ)
   pub argument : Argument
 
--- what a pipe is read as
-pub data Read : Type 0 where
-  Pipe : List Command → Read
-  Refused : Refusal → Read
-
 -- A line is characters here, and so are its parts.
 
 abbrev mutual
@@ -234,12 +229,12 @@ pub data AreJoined : Command → List Command → Type 0 where
   last : {c : _} → AreJoined c []
   next : {c d : Command} {cs : _} → TakesUp c.verb d.verb → d.argument ≡ Nothing → AreJoined d cs → AreJoined c (d ∷ cs)
 
--- what the text of a pipe is read as
-pub data ReadsPipe (text : List ℕ) : Read → Type 0 where
-  pipe : {c cs : _} → ReadsCommands text (Ok (c ∷ cs)) → AreJoined c cs → ReadsPipe text (Pipe (c ∷ cs))
-  bad_pipe : {c cs : _} → ReadsCommands text (Ok (c ∷ cs)) → ¬ AreJoined c cs → ReadsPipe text (Refused (placeless BadPipe []))
-  pipe_refused : {r : _} → ReadsCommands text (Err r) → ReadsPipe text (Refused r)
+-- what the text of a pipe is read as: its commands, or its first refusal
+pub data ReadsPipe (text : List ℕ) : Result (List Command) Refusal → Type 0 where
+  pipe : {c cs : _} → ReadsCommands text (Ok (c ∷ cs)) → AreJoined c cs → ReadsPipe text (Ok (c ∷ cs))
+  bad_pipe : {c cs : _} → ReadsCommands text (Ok (c ∷ cs)) → ¬ AreJoined c cs → ReadsPipe text (Err (placeless BadPipe []))
+  pipe_refused : {r : _} → ReadsCommands text (Err r) → ReadsPipe text (Err r)
 
 -- what the characters of a line are read as: each of its pipes, in order
-abbrev pub ReadsLine : List ℕ → List Read → Type 0
+abbrev pub ReadsLine : List ℕ → List (Result (List Command) Refusal) → Type 0
 ReadsLine line = AllZip ReadsPipe (pipes_of line)

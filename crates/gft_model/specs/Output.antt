@@ -1,11 +1,11 @@
 -- What a whole run of the program writes.
-use Rattle.std.specs.Prelude.{◌≡◌, ◌==◌, ◌||◌, ◌*◌, ℕ, Bool, true, false, not, List, [], ◌∷◌, ◌++◌, length, drop, codes, None}
+use Rattle.std.specs.Prelude.{◌≡◌, ◌==◌, ◌||◌, ◌*◌, ℕ, Bool, true, false, not, List, [], ◌∷◌, ◌++◌, length, drop, codes, None, Ok}
 use Rattle.std.specs.Fmt.{decimal}
 use Rattle.std.specs.Str.Parse.{digits_value}
 use Rattle.gft_io.specs.Lines.{lines_of}
 use Rattle.gft_io.specs.Outside.{Files}
 use Rattle.gft_rules.specs.declared.rule.Rule.TheVariants.{BadArgument}
-use Rattle.gft_model.specs.Commands.{Verb, Import, WritePortable, Pipe, AreFileNames, is_decimal_to, begins_with_hyphen, FileNames}
+use Rattle.gft_model.specs.Commands.{Verb, Import, WritePortable, AreFileNames, is_decimal_to, begins_with_hyphen, FileNames}
 use Rattle.gft_model.specs.Refusals.{placeless}
 use Rattle.gft_model.specs.Shell.{Held, Answer, replying, refusing, InOrder, PipeSteps, Steps}
 use Rattle.gft_model.specs.States.{Sources}
@@ -60,7 +60,7 @@ module _ (S : Sources) where
   -- what a command with file names of the program's words answers; a name of another ending is refused
   pub data FilesStep (held : Held) (verb : Verb) (names : List (List ℕ)) : Answer → Type 0 where
     good_names : {a : _} → AreFileNames verb names →
-        PipeSteps S held (Pipe (record { verb = verb; options = []; argument = FileNames names } ∷ [])) a →
+        PipeSteps S held (Ok (record { verb = verb; options = []; argument = FileNames names } ∷ [])) a →
         FilesStep held verb names a
     bad_names : ¬ AreFileNames verb names → FilesStep held verb names (refusing held (placeless BadArgument []) [])
 

@@ -13,7 +13,7 @@ use Rattle.gft_rules.specs.declared.refusal.Refusal.{Refusal}
 use Rattle.gft_rules.specs.declared.rule.Rule.{Rule}
 use Rattle.gft_rules.specs.declared.rule.Rule.TheVariants.{NoGrammar, NoLanguage, NoSuchLanguage, NoSuchCategory, UnknownName, CannotRead, CannotWrite, PortableTooLong, LineTooLong, LineNotUtf8}
 use Rattle.gft_model.specs.AbstractInfo.{judgement_lines}
-use Rattle.gft_model.specs.Commands.{Verb, Import, Empty, Quit, AbstractInfo, WritePortable, Argument, Nothing, Item, Given, Name, Command, Read, Pipe, Refused, keys_of, option_of, ReadsLine, FileNames}
+use Rattle.gft_model.specs.Commands.{Verb, Import, Empty, Quit, AbstractInfo, WritePortable, Argument, Nothing, Item, Given, Name, Command, keys_of, option_of, ReadsLine, FileNames}
 use Rattle.gft_model.specs.Refusals.{placeless}
 use Rattle.gft_model.specs.Loading.{most_portable_bytes}
 use Rattle.gft_model.specs.PortableFile.{Reads}
@@ -72,17 +72,10 @@ abbrev pub grammar_line : Loaded → List ℕ
 grammar_line g =
     codes "grammar " ++ g.abs.name ++ codes " languages" ++ flat_map (λ (l : List ℕ × Kept). 32 ∷ l.0) g.languages
 
--- the line of a portable file that was written
-abbrev pub wrote_line : List ℕ → ℕ → List ℕ
-wrote_line file count = codes "wrote " ++ file ++ codes " " ++ decimal count ++ codes " bytes"
-
 -- one answer after another, and the answers to several things as one
 abbrev pub followed : Answer → Answer → Answer
-followed a b = record b {
-  reply = a.reply ++ b.reply;
-  refused = a.refused || b.refused;
-  failures = a.failures + b.failures;
-}
+followed a b =
+    record b { reply = a.reply ++ b.reply; refused = a.refused || b.refused; failures = a.failures + b.failures }
 
 abbrev pub whole : Held → List Answer → Answer
 whole held answers = fold followed (replying held []) answers
@@ -116,8 +109,8 @@ module _ (S : Sources) where
     unknown_name : {g : Loaded} {name : _} → held.state ≡ Some g → judgement_lines g.abs (bytes_eq name) ≡ [] →
         Does held AbstractInfo (Name name) (refusing held (placeless UnknownName (name ∷ [])) [])
     writes : {file bytes : _} → IsFileOf held.state bytes → length bytes ≤ most_portable_bytes →
-        Does held WritePortable (FileNames (file ∷ []))
-        (replying (record held { files = insert held.files file bytes }) (wrote_line file (length bytes) ∷ []))
+        Does held WritePortable (FileNames (file ∷ [])) (replying (record held { files = insert held.files file bytes })
+        ((codes "wrote " ++ file ++ codes " " ++ decimal (length bytes) ++ codes " bytes") ∷ []))
     save_failed : {file bytes left : _} → IsFileOf held.state bytes → length bytes ≤ most_portable_bytes →
         KeepsOthers file held.files left →
         Does held WritePortable (FileNames (file ∷ [])) (failing (record held { files = left }) CannotWrite file)
@@ -125,14 +118,14 @@ module _ (S : Sources) where
         Does held WritePortable (FileNames (file ∷ [])) (refusing held (placeless PortableTooLong (file ∷ [])) [])
 
   -- what a pipe answers
-  pub data PipeSteps (held : Held) : Read → Answer → Type 0 where
-    refused : {r : _} → PipeSteps held (Refused r) (refusing held r [])
-    lacking : {cs r : _} → LacksFirst held.state cs r → PipeSteps held (Pipe cs) (refusing held r [])
+  pub data PipeSteps (held : Held) : Result (List Command) Refusal → Answer → Type 0 where
+    refused : {r : _} → PipeSteps held (Err r) (refusing held r [])
+    lacking : {cs r : _} → LacksFirst held.state cs r → PipeSteps held (Ok cs) (refusing held r [])
     done : {c : Command} {a : _} → ((r : Refusal) → ¬ LacksFirst held.state (c ∷ []) r) → Does held c.verb c.argument a →
-        PipeSteps held (Pipe (c ∷ [])) a
+        PipeSteps held (Ok (c ∷ [])) a
     runs : {c : Command} {cs g item result : _} → ((r : Refusal) → ¬ LacksFirst held.state (c ∷ cs) r) →
         held.state ≡ Some g → c.argument ≡ Given item → Runs g (c ∷ cs) (item ∷ []) result →
-        PipeSteps held (Pipe (c ∷ cs)) (ran held result)
+        PipeSteps held (Ok (c ∷ cs)) (ran held result)
 
   -- what a session answers to a line of bytes
   pub data Steps (held : Held) (line : List ℕ) : Answer → Type 0 where

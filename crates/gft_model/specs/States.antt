@@ -79,11 +79,10 @@ pub data Gives (S : Sources) (files : Files) (names : List (List ℕ)) (name : L
 -- stands in place of an earlier one of its name
 pub record IsImported (S : Sources) (files : Files) (names : List (List ℕ)) (new : Loaded) : Type 0 where
   pub accepted : S.accepts files names
-  pub first : Loaded
-  pub others : List Loaded
-  pub given : AllZip (Gives S files names) names (first ∷ others)
-  pub abs : new.abs ≡ first.abs
-  pub languages : new.languages ≡ added [] (flat_map (λ (part : Loaded). part.languages) (first ∷ others))
+  pub parts : List Loaded
+  pub given : AllZip (Gives S files names) names parts
+  pub abs : slice_get (map (λ (part : Loaded). part.abs) parts) 0 ≡ Some new.abs
+  pub languages : new.languages ≡ added [] (flat_map (λ (part : Loaded). part.languages) parts)
 
 -- what is held after an import: equal abstract parts keep the languages that were held
 pub data Joins : State → Loaded → Loaded → Type 0 where

@@ -73,6 +73,5 @@ pub data IsReason (a : Abstract) (t : Tree) : Refusal → Type 0 where
       IsReason a t (placeless IllTyped (text_of u ∷ []))
 
 -- the refusal of a tree without a solution
-pub record IsUnsolved (a : Abstract) (t : Tree) (r : Refusal) : Type 0 where
-  pub unsolvable : ¬ IsSolvable a t
-  pub reason : IsReason a t r
+abbrev pub IsUnsolved : Abstract → Tree → Refusal → Type 0
+IsUnsolved a t r = (¬ IsSolvable a t) × IsReason a t r
