@@ -11,7 +11,7 @@ use Rattle.gft_syntax.specs.declared.judgement.Judgement.TheVariants as J
 use Rattle.gft_syntax.specs.declared.module.Module.{Module}
 use Rattle.gft_syntax.specs.declared.reference.Whole.{Whole}
 use Rattle.gft_syntax.specs.declared.term.Term.{Term}
-use Rattle.gft_model.specs.Modules.{Is, Has, declares, inherits, keeps, instantiates, HasNameable, at_home, from_opened, from_named, plainly, by_alias, by_name, Means, own_name, own_qualified, Declared, own, Writes, own_text, bare, qualified, inherited_of, opened_of, judgements_of, declared_names, mentions, main_name}
+use Rattle.gft_model.specs.Modules.{Is, Has, declares, inherits, keeps, instantiates, HasNameable, at_home, from_opened, from_named, functor_of, Means, own_name, Declared, own, Writes, own_text, inherited_of, opened_of, judgements_of, declared_names, mentions, main_name}
 use Rattle.gft_model.specs.Resolution.{Names, resolved_judgement}
 use Rattle.gft_model.specs.Flats.{whole_of, alone, part_of, IsConstructor, Part, parameters, opers, RestsOn, itself, through, IsMeaning, AreMeanings, IsEntry, HasOfPart, HasAbstract, HasSomewhere, AreListed, IsFlat, categories, functions}
 use Rattle.gft_model.specs.Refusals.{Moment}
@@ -64,7 +64,7 @@ module _ (p : Place) (T e : Term) where
   had (inherits is (k, b, f) l h) =
       absurd (let none = ap (λ m. length (inherited_of m.rest)) (is_r2 is) in omega (arith, b, none))
   had (keeps is f h w u o) = let same = ap (λ m. m.header) (is_r2 is) in cc
-  had (instantiates is f l h) = let same = ap (λ m. m.rest) (is_r2 is) in cc
+  had (instantiates is f l h) = let same = ap (λ m. functor_of m.rest) (is_r2 is) in cc
 
   has_mk : HasNameable mods (codes "R2") mk (own (codes "R2") 0)
   has_mk = record {
@@ -75,25 +75,21 @@ module _ (p : Place) (T e : Term) where
   }
 
   -- what names mean there
-  meant : {x : List ℕ} {d : Declared} → Means mods (own (codes "R2") 0) (bare x) d → (mk ≡ x) × (d ≡ own (codes "R2") 0)
+  meant : {x : List ℕ} {d : Declared} → Means mods (own (codes "R2") 0) None x d → (mk ≡ x) × (d ≡ own (codes "R2") 0)
   meant (own_name k (at_home h)) = had h.has
   meant (own_name k (from_opened is n (i, b, f) h)) =
       absurd (let none = ap (λ m. length (opened_of m)) (is_r2 is) in omega (arith, b, none))
 
-  unqualified : {Q x : List ℕ} {d : Declared} → Means mods (own (codes "R2") 0) (qualified Q x) d → ⊥
-  unqualified (own_qualified k (from_named is (plainly (i, b, f)) h)) =
-      let none = ap (λ m. length (opened_of m)) (is_r2 is) in omega (arith, b, none)
-  unqualified (own_qualified k (from_named is (by_alias (i, b, f)) h)) =
-      let none = ap (λ m. length (opened_of m)) (is_r2 is) in omega (arith, b, none)
-  unqualified (own_qualified k (from_named is (by_name (i, b, f)) h)) =
+  unqualified : {Q x : List ℕ} {d : Declared} → Means mods (own (codes "R2") 0) (Some Q) x d → ⊥
+  unqualified (own_name k (from_named is (o, (i, b, f), q, n) h)) =
       let none = ap (λ m. length (opened_of m)) (is_r2 is) in omega (arith, b, none)
 
+  abbrev only_mk : Option (List ℕ) → List ℕ → Option Whole
+  only_mk None x = if bytes_eq mk x then Some (whole_of mk (own (codes "R2") 0)) else None
+  only_mk (Some Q) x = None
+
   abbrev names : Names
-  names = record {
-    bare = λ x. if bytes_eq mk x then Some (whole_of mk (own (codes "R2") 0)) else None;
-    qualified = λ Q x. None;
-    is_constructor = λ x. false;
-  }
+  names = record { means = only_mk; is_constructor = λ x. false }
 
   abbrev here : Declared
   here = own (codes "R2") 0
@@ -106,7 +102,7 @@ module _ (p : Place) (T e : Term) where
   same_whole {x} h k = ap (λ y. whole_of y here) h ∙ ap (whole_of x) (sym k)
 
   bare_to : (x : List ℕ) (w : Whole) (b : Bool) → bytes_eq mk x ≡ b → (if b then Some (whole_of mk here) else None) ≡ Some w →
-      IsMeaning mods here (bare x) w
+      IsMeaning mods here None x w
   bare_to x w true h k =
       let same = (bytes_eq-Decides mk x).0 h in
       let value : whole_of mk here ≡ w = cc in
@@ -117,36 +113,40 @@ module _ (p : Place) (T e : Term) where
       }
   bare_to x w false h k = cc
 
-  bare_from : (x : List ℕ) (w : Whole) → IsMeaning mods here (bare x) w
+  bare_from : (x : List ℕ) (w : Whole) → IsMeaning mods here None x w
       → (if bytes_eq mk x then Some (whole_of mk here) else None) ≡ Some w
   bare_from x w h =
       let m = meant h.means in
       ap (λ b. if b then Some (whole_of mk here) else None) (ap (bytes_eq mk) (sym m.0))
       ∙ ap Some (same_whole m.0 m.1 ∙ sym (h.only_one h.some_meaning h.means))
 
-  no_constructor : (x : List ℕ) → ((d : Declared) × (j : Judgement) × Means mods here (bare x) d × Writes mods d j
+  no_constructor : (x : List ℕ) → ((d : Declared) × (j : Judgement) × Means mods here None x d × Writes mods d j
       × IsConstructor j x) → false ≡ true
   no_constructor x (d, j, m, w, (n, cs, c, k)) =
       let same : text ≡ J.Param n cs = written_only (subst (λ f. Writes mods f j) (meant m).1 w) ∙ c in cc
 
+  names_to : (q : Option (List ℕ)) (x : List ℕ) (w : Whole) → only_mk q x ≡ Some w → IsMeaning mods here q x w
+  names_to None x w h = bare_to x w (bytes_eq mk x) refl h
+  names_to (Some Q) x w h = cc
+
+  names_from : (q : Option (List ℕ)) (x : List ℕ) (w : Whole) → IsMeaning mods here q x w → only_mk q x ≡ Some w
+  names_from None x w h = bare_from x w h
+  names_from (Some Q) x w h = absurd (unqualified h.means)
+
   meanings : AreMeanings mods here names
   meanings = record {
-    of_bare = λ x w. (bare_to x w (bytes_eq mk x) refl, bare_from x w);
-    of_qualified = λ Q x w. (λ h. cc, λ h. absurd (unqualified h.means));
+    of_names = λ q x w. (names_to q x w, names_from q x w);
     of_constructors = λ x. (λ h. cc, no_constructor x);
   }
 
   names_once : (n : Names) → AreMeanings mods here n → n ≡ names
   names_once n m =
-      let b : n.bare ≡ names.bare =
-      agree (λ x. same_option (n.bare x) (names.bare x) (λ w h. bare_from x w ((m.of_bare x w).0 h)) (λ w h. (m.of_bare x w).1
-          (bare_to x w (bytes_eq mk x) refl h))) in
-      let q : n.qualified ≡ names.qualified =
-      agree (λ Q. agree (λ x. same_option (n.qualified Q x) None (λ w h. absurd (unqualified ((m.of_qualified Q x w).0
-          h).means)) (λ w h. cc))) in
+      let b : n.means ≡ only_mk =
+      agree (λ q. agree (λ x. same_option (n.means q x) (only_mk q x)
+          (λ w h. names_from q x w ((m.of_names q x w).0 h)) (λ w h. (m.of_names q x w).1 (names_to q x w h)))) in
       let c : n.is_constructor ≡ names.is_constructor =
       agree (λ x. same_test (n.is_constructor x) false (λ h. no_constructor x ((m.of_constructors x).0 h)) (λ h. cc)) in
-      λ i. record { bare = b i; qualified = q i; is_constructor = c i }
+      λ i. record { means = b i; is_constructor = c i }
 
   abbrev entry : FlatJudgement
   entry = record { whole = whole_of mk here; judgement = resolved_judgement names (alone mk text) }

@@ -14,7 +14,11 @@ use Rattle.gft_syntax.specs.declared.module.Opened.TheVariants.{Plain}
 use Rattle.gft_syntax.specs.declared.module.Rest.TheVariants.{Own, With}
 use Rattle.gft_syntax.specs.declared.reference.PlacedName.{PlacedName}
 use Rattle.gft_syntax.specs.declared.term.Term.{Term}
-use Rattle.gft_model.specs.Modules.{Is, Has, declares, inherits, keeps, instantiates, HasNameable, Sees, from_opened, SeesQualified, from_named, plainly, here, by_argument, Means, own_name, replaced, Declared, own, copy, own_text, bare, inherited_of, inherited_name, judgements_of, declared_names}
+use Rattle.gft_model.specs.Modules.{Is, Has, declares, inherits, keeps, instantiates, HasNameable, Sees, from_opened, from_named, functor_of, here, by_argument, Means, own_name, replaced, Declared, own, copy, own_text, inherited_of, inherited_name, judgements_of, declared_names}
+
+-- pairs of the same first parts
+same_first : {A B : Type 0} {p q : A × B} → Some p ≡ Some q → p.0 ≡ q.0
+same_first {p = p} {q = q} h = let pair : p ≡ q = cc in ap (λ r. r.0) pair
 
 -- one name is no other
 not_listed : (x y : List ℕ) → bytes_eq x y ≡ false → bytes_eq y y ≡ true → Contains (x ∷ []) y → ⊥
@@ -76,18 +80,18 @@ module _ (p : Place) (T e : Term) where
   opened_is_not_had d (inherits is (k, b, f) l h) =
       absurd (let none = ap (λ m. length (inherited_of m.rest)) (is_amb_eng is) in omega (arith, b, none))
   opened_is_not_had d (keeps is f h w u o) = let same = ap (λ m. m.header) (is_amb_eng is) in cc
-  opened_is_not_had d (instantiates is f l h) = let same = ap (λ m. m.rest) (is_amb_eng is) in cc
+  opened_is_not_had d (instantiates is f l h) = let same = ap (λ m. functor_of m.rest) (is_amb_eng is) in cc
 
   -- mk means the oper of R1 and that of R2: it is ambiguous
-  pub first_meaning : Sees amb (codes "AmbEng") (codes "mk") (own (codes "R1") 0)
+  pub first_meaning : Sees amb (codes "AmbEng") None (codes "mk") (own (codes "R1") 0)
   first_meaning = from_opened refl (λ f h. opened_is_not_had f h.has) (0, omega arith, refl) (mk_of (codes "R1") refl)
 
-  pub second_meaning : Sees amb (codes "AmbEng") (codes "mk") (own (codes "R2") 0)
+  pub second_meaning : Sees amb (codes "AmbEng") None (codes "mk") (own (codes "R2") 0)
   second_meaning = from_opened refl (λ f h. opened_is_not_had f h.has) (1, omega arith, refl) (mk_of (codes "R2") refl)
 
   -- R2.mk means that of R2
-  pub qualified_meaning : SeesQualified amb (codes "AmbEng") (codes "R2") (codes "mk") (own (codes "R2") 0)
-  qualified_meaning = from_named refl (plainly (1, omega arith, refl)) (mk_of (codes "R2") refl)
+  pub qualified_meaning : Sees amb (codes "AmbEng") (Some (codes "R2")) (codes "mk") (own (codes "R2") 0)
+  qualified_meaning = from_named refl (Plain (named (codes "R2")), (1, omega arith, refl), (0, omega arith, refl), refl) (mk_of (codes "R2") refl)
 
   -- interface Lex = {oper hello : Str ;} ; instance LexEng of Lex = {oper hello : Str = "hello" ;} ;
   -- incomplete concrete HiI of Hi = open Lex in {..} ; concrete HiEng of Hi = HiI with (Lex = LexEng)
@@ -123,7 +127,7 @@ module _ (p : Place) (T e : Term) where
   no_hello_in_functor d (inherits is (k, b, f) l h) =
       absurd (let none = ap (λ m. length (inherited_of m.rest)) (is_hi_i is) in omega (arith, b, none))
   no_hello_in_functor d (keeps is f h w u o) = let same = ap (λ m. m.header) (is_hi_i is) in cc
-  no_hello_in_functor d (instantiates is f l h) = let same = ap (λ m. m.rest) (is_hi_i is) in cc
+  no_hello_in_functor d (instantiates is f l h) = let same = ap (λ m. functor_of m.rest) (is_hi_i is) in cc
 
   -- the with module has a copy of the functor's lin, and no oper that the functor opens
   pub has_copy : Has hi (codes "HiEng") (codes "hi") (copy (codes "HiEng") (own (codes "HiI") 1))
@@ -135,9 +139,9 @@ module _ (p : Place) (T e : Term) where
   has_no_hello d (inherits is (k, b, f) l h) =
       absurd (let none = ap (λ m. length (inherited_of m.rest)) (is_hi_eng is) in omega (arith, b, none))
   has_no_hello d (keeps is f h w u o) = let same = ap (λ m. m.header) (is_hi_eng is) in cc
-  has_no_hello d (instantiates {f = f} {d = c} is g l h) =
-      let same = ap (λ m. m.rest) (is_hi_eng is) in
-      let functor : f ≡ Whole (named (codes "HiI")) = cc in
+  has_no_hello d (instantiates {f = f} {ss = ss} {d = c} is g l h) =
+      let same = ap (λ m. functor_of m.rest) (is_hi_eng is) in
+      let functor : f ≡ Whole (named (codes "HiI")) = same_first (sym g ∙ same) in
       no_hello_in_functor c (subst (λ i. Has hi (inherited_name i) (codes "hello") c) functor h)
 
   hello_of_lex : HasNameable hi (codes "Lex") (codes "hello") (own (codes "Lex") 0)
@@ -157,9 +161,9 @@ module _ (p : Place) (T e : Term) where
   }
 
   -- in the functor hello means the interface's, in the copy that of the instance
-  pub means_in_functor : Means hi (own (codes "HiI") 1) (bare (codes "hello")) (own (codes "Lex") 0)
+  pub means_in_functor : Means hi (own (codes "HiI") 1) None (codes "hello") (own (codes "Lex") 0)
   means_in_functor =
       own_name 1 (from_opened refl (λ f h. no_hello_in_functor f h.has) (0, omega arith, refl) hello_of_lex)
 
-  pub means_in_copy : Means hi (copy (codes "HiEng") (own (codes "HiI") 1)) (bare (codes "hello")) (own (codes "LexEng") 0)
+  pub means_in_copy : Means hi (copy (codes "HiEng") (own (codes "HiI") 1)) None (codes "hello") (own (codes "LexEng") 0)
   means_in_copy = replaced means_in_functor (by_argument refl refl (here hello_of_lex hello_of_lex_eng))

@@ -17,7 +17,7 @@ use Rattle.gft_syntax.specs.declared.term.Local.TheVariants.{Value}
 use Rattle.gft_syntax.specs.declared.term.Term.{Term, roll-Term, out-Term}
 use Rattle.gft_syntax.specs.declared.term.Term.TheOpen as T
 use Rattle.gft_syntax.specs.declared.term.Term.TheViews.{out-roll-Term}
-use Rattle.gft_model.specs.Modules.{Is, Has, declares, inherits, keeps, instantiates, HasNameable, from_opened, Declared, own, own_text, module_of, inherited_of, judgements_of, opened_of, declared_names}
+use Rattle.gft_model.specs.Modules.{Is, Has, Sees, functor_of, declares, inherits, keeps, instantiates, HasNameable, from_opened, Declared, own, own_text, module_of, inherited_of, judgements_of, opened_of, declared_names}
 use Rattle.gft_model.specs.NameFaults
 use Rattle.gft_model.specs.HeaderFaults.{Clash}
 use Rattle.gft_model.specs.Refusals.{refusal, sooner, later_on, name_at}
@@ -91,7 +91,7 @@ module _ (t e : Term) where
   not_had d (inherits is (k, b, f) l h) =
       absurd (let none = ap (λ m. length (inherited_of m.rest)) (is_amb_eng is) in omega (arith, b, none))
   not_had d (keeps is f h w u o) = let same = ap (λ m. m.header) (is_amb_eng is) in cc
-  not_had d (instantiates is f l h) = let same = ap (λ m. m.rest) (is_amb_eng is) in cc
+  not_had d (instantiates is f l h) = let same = ap (λ m. functor_of m.rest) (is_amb_eng is) in cc
 
   no_name : {e : Term} {d : T.Term-F Term} → out-Term e ≡ d → ((q : Term) (x : List ℕ) (p : Place) → d ≡ T.Proj q x p → ⊥) →
       ((f a : Term) (p : Place) → d ≡ T.App f a p → ⊥) → NameFaults.IsName e → ⊥
@@ -126,7 +126,7 @@ module _ (t e : Term) where
       in_names is_constructor are (NameFaults.ambiguous_use (used is_constructor) mk_clash)
 
   -- it is not unknown: the rule that a name means nothing is not broken there
-  pub mk_means_something : NameFaults.Meaning mods amb_eng None mk (own (codes "R1") 0)
+  pub mk_means_something : Sees mods (codes "AmbEng") None mk (own (codes "R1") 0)
   mk_means_something = from_opened refl (λ f h. not_had f h.has) (0, omega arith, refl) (mk_of (codes "R1") refl)
 
   -- in a module of the same names with one more judgement, lin b = (Nope).x: what is before the dot is used at its own place,

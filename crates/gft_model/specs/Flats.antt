@@ -16,7 +16,7 @@ use Rattle.gft_syntax.specs.declared.module.Module.{Module}
 use Rattle.gft_syntax.specs.declared.reference.PlacedName.{PlacedName}
 use Rattle.gft_syntax.specs.declared.reference.Whole.{Whole}
 use Rattle.gft_model.specs.JudgementTyping.{list_name}
-use Rattle.gft_model.specs.Modules.{is_abstract, is_concrete, is_incomplete, Is, Has, turn, Writes, header_name, Means, Declared, module_of, module_named, header_mentions, mentions, judgements_of, main_name, Written, bare, qualified, name_of}
+use Rattle.gft_model.specs.Modules.{is_abstract, is_concrete, is_incomplete, Is, Has, turn, Writes, header_name, Means, Declared, module_of, module_named, header_mentions, mentions, judgements_of, main_name}
 use Rattle.gft_model.specs.Refusals.{Moment, Before}
 use Rattle.gft_model.specs.Resolution.{Names, resolved_judgement}
 
@@ -119,18 +119,16 @@ module _ (mods : List Module) where
   loading_turn itself = 1 ∷ []
 
   -- the one thing that a name in a judgement means; several are no fault where the name is not used
-  pub record IsMeaning (d : Declared) (w : Written) (whole : Whole) : Type 0 where
+  pub record IsMeaning (d : Declared) (q : Option (List ℕ)) (x : List ℕ) (whole : Whole) : Type 0 where
     pub some_meaning : Declared
-    pub means : Means mods d w some_meaning
-    pub only_one : (e : Declared) → Means mods d w e → whole ≡ whole_of (name_of w) e
+    pub means : Means mods d q x some_meaning
+    pub only_one : (e : Declared) → Means mods d q x e → whole ≡ whole_of x e
 
   -- what the names of a judgement mean, and which are constructors
   pub record AreMeanings (d : Declared) (names : Names) : Type 0 where
-    pub of_bare : (x : List ℕ) (w : Whole) → (names.bare x ≡ Some w) ↔ IsMeaning d (bare x) w
-    pub of_qualified : (Q x : List ℕ) (w : Whole) →
-        (names.qualified Q x ≡ Some w) ↔ IsMeaning d (qualified Q x) w
+    pub of_names : (q : Option (List ℕ)) (x : List ℕ) (w : Whole) → (names.means q x ≡ Some w) ↔ IsMeaning d q x w
     pub of_constructors : (x : List ℕ) → (names.is_constructor x ≡ true) ↔
-        ((e : Declared) × (j : Judgement) × Means mods d (bare x) e × Writes mods e j × IsConstructor j x)
+        ((e : Declared) × (j : Judgement) × Means mods d None x e × Writes mods e j × IsConstructor j x)
 
   -- the entry of a judgement under one of its names
   pub record IsEntry (x : List ℕ) (d : Declared) (e : FlatJudgement) : Type 0 where

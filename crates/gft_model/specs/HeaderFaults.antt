@@ -6,18 +6,14 @@ use Rattle.gft_rules.specs.declared.rule.Rule.TheVariants as R
 use Rattle.gft_syntax.specs.declared.judgement.Judgement.{Judgement}
 use Rattle.gft_syntax.specs.declared.judgement.Judgement.TheVariants as J
 use Rattle.gft_syntax.specs.declared.judgement.Keyword.{Keyword}
-use Rattle.gft_syntax.specs.declared.judgement.Keyword.TheVariants as K
-use Rattle.gft_syntax.specs.declared.module.Body.{Body}
 use Rattle.gft_syntax.specs.declared.module.Header.{Header}
 use Rattle.gft_syntax.specs.declared.module.Header.TheVariants.{Abstract, Resource, Interface, Instance, Concrete, Incomplete}
 use Rattle.gft_syntax.specs.declared.module.Inherited.{Inherited}
 use Rattle.gft_syntax.specs.declared.module.Inherited.TheVariants.{Whole, Only, Except}
 use Rattle.gft_syntax.specs.declared.module.Module.{Module}
-use Rattle.gft_syntax.specs.declared.module.Rest.TheVariants.{With}
 use Rattle.gft_syntax.specs.declared.module.Substitution.{Substitution}
 use Rattle.gft_syntax.specs.declared.reference.PlacedName.{PlacedName}
-use Rattle.gft_model.specs.JudgementTyping.{list_name}
-use Rattle.gft_model.specs.Modules.{is_abstract, is_interface, is_incomplete, is_concrete, placed_names, sort_of, restricted_of, inherited_at, opened_at, Is, Has, HasNameable, Writes, OwnName, OpensAs, Declared, copy, header_name, header_mentions, inherited_of, inherited_name, lets_through, judgements_of, opened_of, is_undefined, main_name}
+use Rattle.gft_model.specs.Modules.{is_abstract, is_interface, is_incomplete, is_concrete, placed_names, sort_of, functor_of, restricted_of, inherited_at, opened_at, Is, Has, HasNameable, Writes, OwnName, OpensAs, Declared, copy, header_name, header_mentions, inherited_of, inherited_name, lets_through, judgements_of, opened_of, is_undefined, main_name}
 use Rattle.gft_model.specs.Refusals.{Moment, Before, place_moment, name_at, at_name}
 
 -- an instance is a resource too
@@ -60,7 +56,7 @@ listed_names (Whole n) = []
 
 -- the module copies a functor, with substitutions
 abbrev pub IsWith : Module → Inherited → List Substitution → Type 0
-IsWith m f ss = (hs : List Inherited) × (b : Option Body) × (m.rest ≡ With hs f ss b)
+IsWith m f ss = functor_of m.rest ≡ Some (f, ss)
 
 -- a module that a header names, and which kinds are allowed there
 pub data Wants (m : Module) : PlacedName → (Header → Bool) → Type 0 where

@@ -1,5 +1,5 @@
 -- Which judgements a module has, and which a name in it means.
-use Rattle.std.specs.Prelude.{◌≡◌, ℕ, List, [], ◌∷◌, ◌++◌, map, flat_map, Bool, true, false, not, bytes_eq, codes, Contains, Option, Some, None, slice_get, if◌then◌else◌}
+use Rattle.std.specs.Prelude.{◌≡◌, ℕ, List, [], ◌∷◌, ◌++◌, map, flat_map, Bool, true, false, not, bytes_eq, codes, Contains, Option, Some, None, option_to_list, slice_get, if◌then◌else◌}
 use Rattle.std.specs.List.{list_any}
 use Rattle.gft_syntax.specs.declared.judgement.Judgement.{Judgement}
 use Rattle.gft_syntax.specs.declared.judgement.Judgement.TheVariants as J
@@ -58,11 +58,14 @@ inherited_of (Own hs b) = hs
 inherited_of (Inherits hs) = hs
 inherited_of (With hs f ss b) = hs
 
+-- the functor of a with, and what is given for its parameters
+abbrev pub functor_of : Rest → Option (Inherited × List Substitution)
+functor_of (With hs f ss b) = Some (f, ss)
+functor_of r = None
+
 -- what may be restricted: the functor of a with too
 abbrev pub restricted_of : Rest → List Inherited
-restricted_of (Own hs b) = hs
-restricted_of (Inherits hs) = hs
-restricted_of (With hs f ss b) = hs ++ f ∷ []
+restricted_of r = inherited_of r ++ map (λ w. w.0) (option_to_list (functor_of r))
 
 -- its body, where it has one
 abbrev pub body_of : Rest → Option Body
@@ -89,6 +92,11 @@ abbrev pub opened_at : Opened → PlacedName
 opened_at (Plain n) = n
 opened_at (Qualified q n) = n
 
+-- the names under which it is opened: an alias, and its own
+abbrev pub opened_names : Opened → List (List ℕ)
+opened_names (Plain n) = n.name ∷ []
+opened_names (Qualified q n) = q.name ∷ n.name ∷ []
+
 -- the module that is inherited
 abbrev pub inherited_name : Inherited → List ℕ
 inherited_name h = (inherited_at h).name
@@ -110,16 +118,12 @@ header_mentions (Concrete n a) = a ∷ []
 header_mentions (Incomplete n a) = a ∷ []
 header_mentions h = []
 
--- what the parameters of a functor are given: each interface with its instance
-abbrev pub substitutions_of : Rest → List Substitution
-substitutions_of (With hs f ss b) = ss
-substitutions_of r = []
-
 -- the modules that a module names, in the order of the text, in which they are loaded
 abbrev pub mentions : Module → List PlacedName
 mentions m =
     header_mentions m.header ++ map inherited_at (restricted_of m.rest)
-    ++ flat_map (λ s. s.interface ∷ s.instance ∷ []) (substitutions_of m.rest) ++ map opened_at (opened_of m)
+    ++ flat_map (λ w. flat_map (λ s. s.interface ∷ s.instance ∷ []) w.1) (option_to_list (functor_of m.rest))
+    ++ map opened_at (opened_of m)
 
 -- names without their places
 abbrev pub names_of : List PlacedName → List (List ℕ)
@@ -177,16 +181,6 @@ abbrev pub module_of : Declared → List ℕ
 module_of (own M k) = M
 module_of (copy M d) = M
 
--- a written name: without or with a module's name before it
-pub data Written : Type 0 where
-  bare : List ℕ → Written
-  qualified : List ℕ → List ℕ → Written
-
--- the name without that of a module
-abbrev pub name_of : Written → List ℕ
-name_of (bare x) = x
-name_of (qualified Q x) = x
-
 module _ (mods : List Module) where
   -- the module of the name
   abbrev pub Is : List ℕ → Module → Type 0
@@ -209,7 +203,7 @@ module _ (mods : List Module) where
         Has (inherited_name h) x d → Has M x d
     keeps : {M x : _} {m : Module} {n : _} {i : PlacedName} {d j : _} → Is M m → m.header ≡ Instance n i → Has i.name x d →
         Writes d j → is_undefined j ≡ false → ¬ (OwnName m (main_name j x)) → Has M x (copy M d)
-    instantiates : {M x : _} {m : Module} {hs f ss b d : _} → Is M m → m.rest ≡ With hs f ss b → lets_through f x ≡ true →
+    instantiates : {M x : _} {m : Module} {f ss d : _} → Is M m → functor_of m.rest ≡ Some (f, ss) → lets_through f x ≡ true →
         Has (inherited_name f) x d → Has M x (copy M d)
 
   -- its turn there: what is inherited comes first, in the order of the header, then the copies, then its own
@@ -226,21 +220,16 @@ module _ (mods : List Module) where
     pub writes : Writes d text
     pub nameable : sort_of text ≡ None
 
-  -- a module that is opened under a name: an alias, or its own
-  pub data OpensAs : Module → List ℕ → List ℕ → Type 0 where
-    plainly : {m : _} {n : PlacedName} → Contains (opened_of m) (Plain n) → OpensAs m n.name n.name
-    by_alias : {m : _} {q n : PlacedName} → Contains (opened_of m) (Qualified q n) → OpensAs m q.name n.name
-    by_name : {m q : _} {n : PlacedName} → Contains (opened_of m) (Qualified q n) → OpensAs m n.name n.name
+  -- a module that is opened under a name
+  abbrev pub OpensAs : Module → List ℕ → List ℕ → Type 0
+  OpensAs m Q N = (o : Opened) × Contains (opened_of m) o × Contains (opened_names o) Q × ((opened_at o).name ≡ N)
 
-  -- what a bare name means in a module, where no local variable has it
-  pub data Sees : List ℕ → List ℕ → Declared → Type 0 where
-    at_home : {M x d : _} → HasNameable M x d → Sees M x d
+  -- what x, or Q.x, means in a module, where no local variable is called x, or Q
+  pub data Sees : List ℕ → Option (List ℕ) → List ℕ → Declared → Type 0 where
+    at_home : {M x d : _} → HasNameable M x d → Sees M None x d
     from_opened : {M x m : _} {n : PlacedName} {d : _} → Is M m → ((e : Declared) → ¬ (HasNameable M x e)) →
-        Contains (opened_of m) (Plain n) → HasNameable n.name x d → Sees M x d
-
-  -- what Q.x means in a module, where no local variable is called Q
-  pub data SeesQualified : List ℕ → List ℕ → List ℕ → Declared → Type 0 where
-    from_named : {M Q N x m d : _} → Is M m → OpensAs m Q N → HasNameable N x d → SeesQualified M Q x d
+        Contains (opened_of m) (Plain n) → HasNameable n.name x d → Sees M None x d
+    from_named : {M Q N x m d : _} → Is M m → OpensAs m Q N → HasNameable N x d → Sees M (Some Q) x d
 
   -- what the instances of a with give for a constant of an interface under a name: the first interface that
   -- has it counts
@@ -256,16 +245,15 @@ module _ (mods : List Module) where
   pub data Replaces : List ℕ → List ℕ → Declared → Declared → Type 0 where
     by_instance : {M y : _} {m : Module} {n : _} {i : PlacedName} {d e : _} → Is M m → m.header ≡ Instance n i →
         HasNameable i.name y d → HasNameable M y e → Replaces M y d e
-    by_argument : {M y : _} {m : Module} {hs f ss b d e : _} → Is M m → m.rest ≡ With hs f ss b → Argument ss y d e →
+    by_argument : {M y : _} {m : Module} {f ss d e : _} → Is M m → functor_of m.rest ≡ Some (f, ss) → Argument ss y d e →
         Replaces M y d e
-    by_copy : {M y z : _} {m : Module} {hs f ss b d j : _} → Is M m → m.rest ≡ With hs f ss b → Writes d j →
+    by_copy : {M y z : _} {m : Module} {f ss d j : _} → Is M m → functor_of m.rest ≡ Some (f, ss) → Writes d j →
         Has (inherited_name f) z d → lets_through f z ≡ true → Contains (declared_names j) y → main_name j y ≡ main_name j z →
         Replaces M y d (copy M d)
 
-  -- what a name in a judgement means: in an own one by the module where it is written, in a copy what
+  -- what x, or Q.x, in a judgement means: in an own one by the module where it is written, in a copy what
   -- stands for what it meant, where there is something, and else the same
-  pub data Means : Declared → Written → Declared → Type 0 where
-    own_name : {M x : _} (k : ℕ) {d : _} → Sees M x d → Means (own M k) (bare x) d
-    own_qualified : {M Q x : _} (k : ℕ) {d : _} → SeesQualified M Q x d → Means (own M k) (qualified Q x) d
-    replaced : {M j d e w : _} → Means j w d → Replaces M (name_of w) d e → Means (copy M j) w e
-    remains : {M j d w : _} → Means j w d → ((e : Declared) → ¬ (Replaces M (name_of w) d e)) → Means (copy M j) w d
+  pub data Means : Declared → Option (List ℕ) → List ℕ → Declared → Type 0 where
+    own_name : {M q x : _} (k : ℕ) {d : _} → Sees M q x d → Means (own M k) q x d
+    replaced : {M j q x d e : _} → Means j q x d → Replaces M x d e → Means (copy M j) q x e
+    remains : {M j q x d : _} → Means j q x d → ((e : Declared) → ¬ (Replaces M x d e)) → Means (copy M j) q x d

@@ -6,7 +6,7 @@ use Rattle.gft_rules.specs.declared.rule.Rule.TheVariants as R
 use Rattle.gft_syntax.specs.declared.judgement.Judgement.{Judgement}
 use Rattle.gft_syntax.specs.declared.judgement.Judgement.TheVariants as J
 use Rattle.gft_syntax.specs.declared.module.Module.{Module}
-use Rattle.gft_syntax.specs.declared.module.Opened.TheVariants.{Plain, Qualified}
+use Rattle.gft_syntax.specs.declared.module.Opened.TheVariants.{Plain}
 use Rattle.gft_syntax.specs.declared.pattern.Pattern.{Pattern, out-Pattern}
 use Rattle.gft_syntax.specs.declared.pattern.Pattern.TheOpen as P
 use Rattle.gft_syntax.specs.declared.pattern.Pattern.TheFolds.{fold-Pattern}
@@ -20,7 +20,7 @@ use Rattle.gft_syntax.specs.Parts.{Part as TermPart, parts, pattern_parts, patte
 use Rattle.gft_model.specs.Flats.{IsConstructor, IsOf}
 use Rattle.gft_model.specs.HeaderFaults.{IsBuiltIn, Clash}
 use Rattle.gft_model.specs.JudgementTyping.{list_name}
-use Rattle.gft_model.specs.Modules.{is_abstract, placed_names, sort_of, opened_at, HasNameable, Writes, OpensAs, Sees, SeesQualified, Declared, header_name, header_mentions, judgements_of, opened_of, names_of}
+use Rattle.gft_model.specs.Modules.{is_abstract, placed_names, sort_of, opened_at, opened_names, HasNameable, Writes, OpensAs, Sees, Declared, header_name, header_mentions, judgements_of, opened_of, names_of}
 use Rattle.gft_model.specs.Refusals.{name_at}
 use Rattle.gft_model.specs.Resolution.{Locals, is_local}
 use Rattle.gft_model.specs.TypeForms.{predef_named}
@@ -51,24 +51,17 @@ module _ (mods : List Module) (m : Module) where
   abbrev own_name : List ℕ
   own_name = (header_name m.header).name
 
-  -- what x, or Q.x, means in the module
-  abbrev pub Meaning : Option (List ℕ) → List ℕ → Declared → Type 0
-  Meaning None x d = Sees mods own_name x d
-  Meaning (Some Q) x d = SeesQualified mods own_name Q x d
-
   -- it means a constructor, which no variable hides
   abbrev pub MeansConstructor : Locals → Option (List ℕ) → List ℕ → Type 0
-  MeansConstructor xs q x = (is_local (unwrap_or q x) xs ≡ false) × (d : Declared) × (j : Judgement) × Meaning q x d
+  MeansConstructor xs q x = (is_local (unwrap_or q x) xs ≡ false) × (d : Declared) × (j : Judgement) × Sees mods own_name q x d
       × Writes mods d j × IsConstructor j x
 
   -- an opened module gives a judgement for x, where the module itself has none, or for Q.x
   pub data Gives (x : List ℕ) : Option (List ℕ) → PlacedName → Declared → Type 0 where
     for_bare : {n d : _} → Contains (opened_of m) (Plain n) → ((e : Declared) → ¬ (HasNameable mods own_name x e)) →
         HasNameable mods n.name x d → Gives x None n d
-    for_name : {o d : _} → Contains (opened_of m) o → HasNameable mods (opened_at o).name x d →
-        Gives x (Some (opened_at o).name) (opened_at o) d
-    for_alias : {q n : PlacedName} {d : _} → Contains (opened_of m) (Qualified q n) → HasNameable mods n.name x d →
-        Gives x (Some q.name) n d
+    for_qualified : {Q o d : _} → Contains (opened_of m) o → Contains (opened_names o) Q →
+        HasNameable mods (opened_at o).name x d → Gives x (Some Q) (opened_at o) d
 
   -- the module opens another under that name
   abbrev pub Opens : List ℕ → Type 0
@@ -112,7 +105,7 @@ module _ (mods : List Module) (m : Module) where
 
     -- which rules are broken in the names of own judgements, at which name, and with which opened modules beside
     pub data BreaksNames : Rule → PlacedName → List PlacedName → Type 0 where
-      means_nothing : {q : _} {n : PlacedName} → Uses q n → ((d : Declared) → ¬ (Meaning q n.name d)) →
+      means_nothing : {q : _} {n : PlacedName} → Uses q n → ((d : Declared) → ¬ (Sees mods own_name q n.name d)) →
           ¬ ((is_abstract m.header ≡ true) × (q ≡ None) × IsBuiltIn n.name) → BreaksNames R.Unknown n []
       no_constructor : {xs q x p : _} → InPattern xs true q x p → ¬ (MeansConstructor xs q x) →
           BreaksNames R.Unknown (name_at x p) []

@@ -1,5 +1,5 @@
 -- Judgements with each name replaced by what it means.
-use Rattle.std.specs.Prelude.{ℕ, List, [], ◌∷◌, ◌++◌, map, flat_map, Bool, bytes_eq, Option, Some, None, if◌then◌else◌, option_map}
+use Rattle.std.specs.Prelude.{ℕ, List, [], ◌∷◌, ◌++◌, map, flat_map, Bool, bytes_eq, Option, Some, None, if◌then◌else◌, option_map, unwrap_or}
 use Rattle.std.specs.List.{list_any}
 use Rattle.gft_core.specs.declared.place.Place.{Place}
 use Rattle.gft_syntax.specs.declared.judgement.Constructor.{Constructor}
@@ -23,10 +23,9 @@ use Rattle.gft_syntax.specs.declared.term.Term.TheFolds.{para-Term, map-Term}
 use Rattle.gft_syntax.specs.Parts.{bound_names, local_names, pattern_parts}
 use Rattle.gft_model.specs.JudgementTyping.{list_name}
 
--- what names mean: a bare one, one with a module's name before it, and which bare ones are constructors
+-- what x, or Q.x, means, and which bare names are constructors
 pub record Names : Type 0 where
-  pub bare : List ℕ → Option Whole
-  pub qualified : List ℕ → List ℕ → Option Whole
+  pub means : Option (List ℕ) → List ℕ → Option Whole
   pub is_constructor : List ℕ → Bool
 
 -- the names of local variables
@@ -42,32 +41,23 @@ abbrev pub whole_or : Reference → Option Whole → Reference
 whole_or r None = r
 whole_or r (Some w) = R.Whole w
 
--- a name under local variables
-abbrev pub resolved_name : Names → Reference → Locals → Reference
-resolved_name n (R.Written x) xs = if is_local x xs then R.Written x else whole_or (R.Written x) (n.bare x)
-resolved_name n (R.Found o) xs = R.Found o
-resolved_name n (R.Whole w) xs = R.Whole w
+-- what x, or Q.x, means under local variables, of which none may be called x, or Q
+abbrev pub meaning : Names → Locals → Option (List ℕ) → List ℕ → Option Whole
+meaning n xs q x = if is_local (unwrap_or q x) xs then None else n.means q x
+
+-- a name under local variables, without or with a module's name
+abbrev pub resolved_name : Names → Locals → Option (List ℕ) → Reference → Reference
+resolved_name n xs q (R.Written x) = whole_or (R.Written x) (meaning n xs q x)
+resolved_name n xs q r = r
 
 -- a name of a pattern without arguments: only a constructor is no variable
 abbrev pub resolved_leaf : Names → Locals → Reference → Reference
-resolved_leaf n xs (R.Written x) = if n.is_constructor x then resolved_name n (R.Written x) xs else R.Written x
-resolved_leaf n xs (R.Found o) = R.Found o
-resolved_leaf n xs (R.Whole w) = R.Whole w
-
--- Q.x, where Q is no variable
-abbrev pub resolved_qualified : Names → Locals → List ℕ → List ℕ → Option Whole
-resolved_qualified n xs Q x = if is_local Q xs then None else n.qualified Q x
-
--- a constructor with arguments or with a module's name
-abbrev pub resolved_head : Names → Locals → Option (List ℕ) → Reference → Reference
-resolved_head n xs None r = resolved_name n r xs
-resolved_head n xs (Some Q) (R.Written x) = whole_or (R.Written x) (resolved_qualified n xs Q x)
-resolved_head n xs (Some Q) (R.Found o) = R.Found o
-resolved_head n xs (Some Q) (R.Whole w) = R.Whole w
+resolved_leaf n xs (R.Written x) = if n.is_constructor x then resolved_name n xs None (R.Written x) else R.Written x
+resolved_leaf n xs r = r
 
 -- the names in one layer of a pattern
 abbrev pub pattern_step : Names → Locals → P.Pattern-F Pattern → Pattern
-pattern_step n xs (P.Con m r ps place) = roll-Pattern (P.Con m (resolved_head n xs m r) ps place)
+pattern_step n xs (P.Con m r ps place) = roll-Pattern (P.Con m (resolved_name n xs m r) ps place)
 pattern_step n xs (P.Name r place) = roll-Pattern (P.Name (resolved_leaf n xs r) place)
 pattern_step n xs d = roll-Pattern d
 
@@ -111,7 +101,7 @@ resolved_case n xs c =
 
 -- Q.x is a whole name where Q is no variable and is a module or alias; else a projection
 abbrev pub qualified_name : Names → Locals → T.Term-F Term → List ℕ → Option Whole
-qualified_name n xs (T.Var (R.Written Q) place) x = resolved_qualified n xs Q x
+qualified_name n xs (T.Var (R.Written Q) place) x = meaning n xs (Some Q) x
 qualified_name n xs d x = None
 
 -- a whole name or a projection
@@ -121,9 +111,8 @@ projected (Some w) e x place = roll-Term (T.Var (R.Whole w) place)
 
 -- [C] means ListC, whatever the variables are
 abbrev pub list_category : Names → Reference → Reference
-list_category n (R.Written C) = whole_or (R.Written C) (n.bare (list_name C))
-list_category n (R.Found o) = R.Found o
-list_category n (R.Whole w) = R.Whole w
+list_category n (R.Written C) = whole_or (R.Written C) (n.means None (list_name C))
+list_category n r = r
 
 -- names are replaced, and forms that bind variables hand them on; in every other form the parts stand under
 -- the same variables
@@ -136,7 +125,7 @@ resolve_step n (T.TableOf p cs place) xs =
     roll-Term (T.TableOf (option_map (λ t. t.1 xs) p) (map (resolved_case n xs) cs) place)
 resolve_step n (T.CaseOf e cs place) xs = roll-Term (T.CaseOf (e.1 xs) (map (resolved_case n xs) cs) place)
 resolve_step n (T.Proj e x place) xs = projected (qualified_name n xs (out-Term e.0) x) (e.1 xs) x place
-resolve_step n (T.Var r place) xs = roll-Term (T.Var (resolved_name n r xs) place)
+resolve_step n (T.Var r place) xs = roll-Term (T.Var (resolved_name n xs None r) place)
 resolve_step n (T.ListCat r place) xs = roll-Term (T.ListCat (list_category n r) place)
 resolve_step n d xs = roll-Term (map-Term (Term × Open) Term (λ t. t.1 xs) d)
 
@@ -163,15 +152,14 @@ resolved_definition n xs (D.Overload ds) =
 -- a judgement with its names replaced
 abbrev pub resolved_judgement : Names → Judgement → Judgement
 resolved_judgement n (J.Cat c cs) = J.Cat c (resolved_contexts n [] cs)
-resolved_judgement n (J.ListCat c r k place) = J.ListCat c (resolved_name n r []) k place
+resolved_judgement n (J.ListCat c r k place) = J.ListCat c (resolved_name n [] None r) k place
 resolved_judgement n (J.Fun ns t) = J.Fun ns (resolved n t [])
-resolved_judgement n (J.Flag f v) = J.Flag f v
 resolved_judgement n (J.Lincat ns t) = J.Lincat ns (resolved n t [])
 resolved_judgement n (J.Lin ns bs e) = J.Lin ns bs (resolved n e (bound_names bs))
 resolved_judgement n (J.Lindef ns bs e) = J.Lindef ns bs (resolved n e (bound_names bs))
 resolved_judgement n (J.Linref ns bs e) = J.Linref ns bs (resolved n e (bound_names bs))
-resolved_judgement n (J.ParamName p) = J.ParamName p
 resolved_judgement n (J.Param p cs) = J.Param p (map (resolved_constructor n) cs)
 resolved_judgement n (J.OperType ns t) = J.OperType ns (resolved n t [])
 resolved_judgement n (J.OperTyped ns t d) = J.OperTyped ns (resolved n t []) (resolved_definition n [] d)
 resolved_judgement n (J.Oper ns bs d) = J.Oper ns bs (resolved_definition n (bound_names bs) d)
+resolved_judgement n j = j
