@@ -2,9 +2,11 @@
 use Rattle.std.proofs.Common.{◌≡◌, ap, sym, ◌∙◌, refl, ℕ, zero, suc, true, false, List, [], ◌∷◌, length, Some, None, subst, arith}
 use Rattle.std.specs.Prelude.{codes, bytes_eq, Contains, slice_get}
 use Rattle.gft_core.specs.declared.place.Place.{Place}
+use Rattle.gft_syntax.specs.declared.bind.Bind.{Bind}
 use Rattle.gft_syntax.specs.declared.judgement.Definition.TheVariants as D
 use Rattle.gft_syntax.specs.declared.judgement.Judgement.{Judgement}
 use Rattle.gft_syntax.specs.declared.judgement.Judgement.TheVariants as J
+use Rattle.gft_syntax.specs.declared.judgement.Keyword.TheVariants as K
 use Rattle.gft_syntax.specs.declared.module.Header.{Header}
 use Rattle.gft_syntax.specs.declared.module.Header.TheVariants.{Abstract, Resource, Interface, Instance, Concrete, Incomplete}
 use Rattle.gft_syntax.specs.declared.module.Inherited.TheVariants.{Whole}
@@ -14,7 +16,8 @@ use Rattle.gft_syntax.specs.declared.module.Opened.TheVariants.{Plain}
 use Rattle.gft_syntax.specs.declared.module.Rest.TheVariants.{Own, With}
 use Rattle.gft_syntax.specs.declared.reference.PlacedName.{PlacedName}
 use Rattle.gft_syntax.specs.declared.term.Term.{Term}
-use Rattle.gft_model.specs.Modules.{Is, Has, declares, inherits, keeps, instantiates, HasNameable, Sees, from_opened, from_named, functor_of, here, by_argument, Means, own_name, replaced, Declared, own, copy, own_text, inherited_of, inherited_name, judgements_of, declared_names}
+use Rattle.gft_model.specs.Flats.{IsOf}
+use Rattle.gft_model.specs.Modules.{Is, Has, declares, inherits, keeps, instantiates, HasNameable, Sees, from_opened, from_named, functor_of, turn, here, by_argument, Means, own_name, replaced, Declared, own, copy, own_text, inherited_of, inherited_name, judgements_of, declared_names}
 
 -- pairs of the same first parts
 same_first : {A B : Type 0} {p q : A × B} → Some p ≡ Some q → p.0 ≡ q.0
@@ -132,6 +135,18 @@ module _ (p : Place) (T e : Term) where
   -- the with module has a copy of the functor's lin, and no oper that the functor opens
   pub has_copy : Has hi (codes "HiEng") (codes "hi") (copy (codes "HiEng") (own (codes "HiI") 1))
   has_copy = instantiates refl refl refl (declares 1 refl refl (0, omega arith, refl))
+
+  -- the copy stands among the copies, where the functor has the lin: own judgement 1 under its name 0
+  pub copy_turn : turn hi has_copy ≡ 2 ∷ 3 ∷ 1 ∷ 0 ∷ []
+  unfolding has_copy
+  copy_turn = refl
+
+  -- it is of the function of Hi
+  pub lin_is_of : (bs : List Bind) (f : Term) → IsOf hi (codes "Hi") (codes "hi") (J.Lin (named (codes "hi") ∷ []) bs f)
+  lin_is_of bs f = (
+    K.Lin, own (codes "Hi") 1, J.Fun (named (codes "hi") ∷ []) T, refl,
+    declares 1 refl refl (0, omega arith, refl), own_text 1 refl refl, refl,
+  )
 
   pub has_no_hello : (d : Declared) → ¬ (Has hi (codes "HiEng") (codes "hello") d)
   has_no_hello d (declares k {j = j} is g c) =

@@ -1,6 +1,6 @@
 -- The resolved grammar of modules: every judgement that counts, under its whole name, with each name
 -- in it replaced by what it means.
-use Rattle.std.specs.Prelude.{◌≡◌, ℕ, List, [], ◌∷◌, ◌++◌, map, filter, filter_map, unwrap_or, Bool, true, false, not, ◌&&◌, ◌↔◌, bytes_eq, codes, Contains, AllPairs, Option, Some, None, option_map, option_and_then, if◌then◌else◌}
+use Rattle.std.specs.Prelude.{◌≡◌, ℕ, List, [], ◌∷◌, ◌++◌, map, filter, filter_map, find, unwrap_or, Bool, true, not, ◌&&◌, ◌↔◌, bytes_eq, codes, Contains, AllPairs, Option, Some, None, option_map, if◌then◌else◌}
 use Rattle.std.specs.List.{list_any, last_or}
 use Rattle.std.specs.Cmp.Lexicographic.{slice_cmp}
 use Rattle.std.specs.Ordering.{nat_cmp}
@@ -11,12 +11,14 @@ use Rattle.gft_syntax.specs.declared.flat.FlatJudgement.{FlatJudgement}
 use Rattle.gft_syntax.specs.declared.judgement.Constructor.{Constructor}
 use Rattle.gft_syntax.specs.declared.judgement.Judgement.{Judgement}
 use Rattle.gft_syntax.specs.declared.judgement.Judgement.TheVariants as J
+use Rattle.gft_syntax.specs.declared.judgement.Keyword.{Keyword}
+use Rattle.gft_syntax.specs.declared.judgement.Keyword.TheVariants as K
 use Rattle.gft_syntax.specs.declared.judgement.Setting.TheVariants as V
 use Rattle.gft_syntax.specs.declared.module.Module.{Module}
 use Rattle.gft_syntax.specs.declared.reference.PlacedName.{PlacedName}
 use Rattle.gft_syntax.specs.declared.reference.Whole.{Whole}
 use Rattle.gft_model.specs.JudgementTyping.{list_name}
-use Rattle.gft_model.specs.Modules.{is_abstract, is_concrete, is_incomplete, Is, Has, turn, Writes, header_name, Means, Declared, module_of, module_named, header_mentions, mentions, judgements_of, main_name}
+use Rattle.gft_model.specs.Modules.{is_abstract, is_concrete, is_incomplete, Is, Has, turn, Writes, header_name, Means, Declared, module_of, module_named, header_mentions, sort_of, mentions, judgements_of, main_name}
 use Rattle.gft_model.specs.Refusals.{Moment, Before}
 use Rattle.gft_model.specs.Resolution.{Names, resolved_judgement}
 
@@ -59,13 +61,10 @@ part_of x (J.OperTyped ns T d) = Some opers
 part_of x (J.Oper ns xs d) = Some opers
 part_of x j = None
 
--- what a judgement of a language is of: the category or the function of its name
-abbrev pub linearized_part : Judgement → Option Part
-linearized_part (J.Lincat ns T) = Some categories
-linearized_part (J.Lin ns xs e) = Some functions
-linearized_part (J.Lindef ns xs e) = Some categories
-linearized_part (J.Linref ns xs e) = Some categories
-linearized_part j = None
+-- what a linearization of the keyword is of: a category or a function
+abbrev pub linearized_part : Keyword → Part
+linearized_part K.Lin = functions
+linearized_part k = categories
 
 -- the judgement declares the name as a constructor
 abbrev pub IsConstructor : Judgement → List ℕ → Type 0
@@ -97,16 +96,12 @@ abbrev pub start_of : List (List ℕ) → List Judgement → List ℕ
 start_of cats js = unwrap_or (last_or None (filter_map (flag_value cats) js)) (default_start cats)
 
 module _ (mods : List Module) where
-  -- the abstract module among some: the first
+  -- the abstract module among some, the first where there are several, and the complete concrete ones
   abbrev pub abstract_in : List (List ℕ) → Option Module
-  abstract_in [] = None
-  abstract_in (C ∷ Cs) =
-      elim (option_and_then (λ (m : Module). if is_abstract m.header then Some m else None) (module_named mods C))
-      [ Some m ↦ Some m | None ↦ abstract_in Cs ]
+  abstract_in chosen = find (λ m. is_abstract m.header) (filter_map (module_named mods) chosen)
 
-  -- a name of a complete concrete module
-  abbrev pub is_language : List ℕ → Bool
-  is_language M = elim (module_named mods M) [ Some m ↦ is_concrete m.header && not (is_incomplete m.header) | None ↦ false ]
+  abbrev pub languages_in : List (List ℕ) → List Module
+  languages_in chosen = filter (λ m. is_concrete m.header && not (is_incomplete m.header)) (filter_map (module_named mods) chosen)
 
   -- a module rests on itself, on what it names, and so on
   pub data RestsOn : List ℕ → List ℕ → Type 0 where
@@ -166,16 +161,16 @@ module _ (mods : List Module) where
       (C : List ℕ) × (M : List ℕ) × (c : Contains chosen C) × (r : RestsOn C M) × (there : Moment)
       × (at ≡ c.0 ∷ loading_turn r ++ there) × HasOfPart p M there e
 
-  -- the abstract module of M has the category or the function that a judgement is of
+  -- the module has the category or the function that a linearization is of
   abbrev pub IsOf : List ℕ → List ℕ → Judgement → Type 0
-  IsOf M x j = (m : Module) × (A : PlacedName) × (d : Declared) × (k : Judgement) × (p : Part)
-      × Is mods M m × Contains (header_mentions m.header) A × Has mods A.name x d × Writes mods d k
-      × (part_of x k ≡ Some p) × (linearized_part j ≡ Some p)
+  IsOf A x j = (k : Keyword) × (d : Declared) × (i : Judgement) × (sort_of j ≡ Some k)
+      × Has mods A x d × Writes mods d i × (part_of x i ≡ Some (linearized_part k))
 
   -- what a concrete module says of the categories and functions of its abstract module; what it says of
   -- others is no part of the language
   abbrev pub HasLinearization : List ℕ → Moment → FlatJudgement → Type 0
-  HasLinearization M = HasEntry (IsOf M) (λ j x. x) M
+  HasLinearization M = HasEntry (λ x j. (m : Module) × (A : PlacedName) × Is mods M m × Contains (header_mentions m.header) A
+      × IsOf A.name x j) (λ j x. x) M
 
 -- the first turn of the one comes before all turns of the other
 abbrev pub Precedes : (Moment → FlatJudgement → Type 0) → FlatJudgement → FlatJudgement → Type 0
@@ -195,6 +190,6 @@ pub record IsFlat (mods : List Module) (chosen : List (List ℕ)) (flat : Flat) 
   pub funs_of : AreListed flat.funs (HasAbstract mods functions chosen)
   pub params_of : AreListed flat.params (HasSomewhere mods parameters chosen)
   pub opers_of : AreListed flat.opers (HasSomewhere mods opers chosen)
-  pub languages : map (λ c. c.name) flat.concretes ≡ filter (is_language mods) chosen
+  pub languages : map (λ c. c.name) flat.concretes ≡ map (λ (m : Module). (header_name m.header).name) (languages_in mods chosen)
   pub judgements : (c : FlatConcrete) → Contains flat.concretes c → AreListed c.judgements (HasLinearization mods c.name)
   pub typed : flat.typed ≡ []

@@ -73,9 +73,9 @@ module _ (mods : List Module) (m : Module) (flat : Flat) where
   -- the turn of a declared type and of its comparison: once the own judgement is typed, by its names in order; of an
   -- inherited one, after all own judgements, by name
   pub data TurnOf (order : List FlatJudgement) (w : Whole) : Moment → Type 0 where
-    own_turn : {k i : _} {f : FlatJudgement} → slice_get order k ≡ Some f → slice_get (answered None f) i ≡ Some w →
+    own_turn : {k i : _} {f : FlatJudgement} → slice_get order k ≡ Some f → slice_get (answered f) i ≡ Some w →
         TurnOf order w (k ∷ suc (length (judgement_sites w.«module» w.name f.judgement)) ∷ i ∷ [])
-    inherited_turn : ((f : FlatJudgement) → Contains order f → ¬ (Contains (answered None f) w)) →
+    inherited_turn : ((f : FlatJudgement) → Contains order f → ¬ (Contains (answered f) w)) →
         TurnOf order w (length order ∷ name_moment w.name)
 
   -- the types that are declared

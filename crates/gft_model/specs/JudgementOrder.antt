@@ -1,5 +1,5 @@
 -- The order in which the judgements of a module are typed.
-use Rattle.std.specs.Prelude.{◌≡◌, ℕ, suc, List, [], ◌∷◌, ◌++◌, map, flat_map, filter, Bool, true, false, ◌||◌, Contains, Option, Some, None, ◌≢◌, slice_get}
+use Rattle.std.specs.Prelude.{◌≡◌, ℕ, suc, List, [], ◌∷◌, ◌++◌, map, flat_map, filter, Bool, true, false, ◌||◌, Contains, Option, Some, None, ◌≢◌, option_to_list, slice_get}
 use Rattle.gft_syntax.specs.declared.flat.FlatJudgement.{FlatJudgement}
 use Rattle.gft_syntax.specs.declared.judgement.Judgement.{Judgement}
 use Rattle.gft_syntax.specs.declared.judgement.Judgement.TheVariants as J
@@ -15,25 +15,24 @@ use Rattle.gft_model.specs.Refusals.{Moment}
 use Rattle.gft_syntax.specs.Parts.{judgement_names}
 
 -- the whole names by which terms name a judgement; they name no linearization
-abbrev pub answered : Option Keyword → FlatJudgement → List Whole
-answered None e = map (λ x. record { «module» = e.whole.«module»; name = x }) (declared_names e.judgement)
-answered (Some k) e = []
+abbrev pub answered : FlatJudgement → List Whole
+answered e = elim (sort_of e.judgement)
+    [ None ↦ map (λ x. record { «module» = e.whole.«module»; name = x }) (declared_names e.judgement) | Some k ↦ [] ]
 
--- a linearization needs the linearization type of a category
-pub data NeedsType (funs : List FlatJudgement) (e : FlatJudgement) : List ℕ → Type 0 where
-  of_argument : {s : Signature} {C : _} → sort_of e.judgement ≡ Some K.Lin → signature_in funs e.whole.name ≡ Some s →
-      Contains s.arguments C → NeedsType funs e C
-  of_result : {s : Signature} → sort_of e.judgement ≡ Some K.Lin → signature_in funs e.whole.name ≡ Some s →
-      NeedsType funs e s.result
-  of_lindef : sort_of e.judgement ≡ Some K.Lindef → NeedsType funs e e.whole.name
-  of_linref : sort_of e.judgement ≡ Some K.Linref → NeedsType funs e e.whole.name
+-- the categories whose linearization types a linearization of the keyword and name needs
+abbrev pub needed_categories : List FlatJudgement → Option Keyword → List ℕ → List (List ℕ)
+needed_categories funs (Some K.Lin) f =
+    flat_map (λ (s : Signature). s.arguments ++ s.result ∷ []) (option_to_list (signature_in funs f))
+needed_categories funs (Some K.Lindef) C = C ∷ []
+needed_categories funs (Some K.Linref) C = C ∷ []
+needed_categories funs s x = []
 
 -- among judgements, one rests on another: it names it, needs it, or rests on what does
 pub data RestsOn (es funs : List FlatJudgement) : FlatJudgement → FlatJudgement → Type 0 where
   by_name : {e f : FlatJudgement} {w : _} → Contains es e → Contains es f → Contains (judgement_names e.judgement) w →
-      Contains (answered (sort_of f.judgement) f) w → RestsOn es funs e f
-  by_lincat : {e : _} {f : FlatJudgement} {C : _} → Contains es e → Contains es f → NeedsType funs e C →
-      sort_of f.judgement ≡ Some K.Lincat → f.whole.name ≡ C → RestsOn es funs e f
+      Contains (answered f) w → RestsOn es funs e f
+  by_lincat : {e f : FlatJudgement} → Contains es e → Contains es f → sort_of f.judgement ≡ Some K.Lincat →
+      Contains (needed_categories funs (sort_of e.judgement) e.whole.name) f.whole.name → RestsOn es funs e f
   through : {e f g : _} → RestsOn es funs e f → RestsOn es funs f g → RestsOn es funs e g
 
 -- those of the judgements that one rests on and that do not rest on it, in the same order
