@@ -1,8 +1,6 @@
 -- Judgements with each name replaced by what it means.
 use Rattle.std.specs.Prelude.{ℕ, List, [], ◌∷◌, ◌++◌, map, flat_map, Bool, bytes_eq, Option, Some, None, if◌then◌else◌, option_map, unwrap_or}
 use Rattle.std.specs.List.{list_any}
-use Rattle.gft_core.specs.declared.place.Place.{Place}
-use Rattle.gft_syntax.specs.declared.judgement.Constructor.{Constructor}
 use Rattle.gft_syntax.specs.declared.judgement.Context.{Context}
 use Rattle.gft_syntax.specs.declared.judgement.Definition.{Definition}
 use Rattle.gft_syntax.specs.declared.judgement.Definition.TheVariants as D
@@ -16,10 +14,10 @@ use Rattle.gft_syntax.specs.declared.reference.Reference.TheVariants as R
 use Rattle.gft_syntax.specs.declared.reference.Whole.{Whole}
 use Rattle.gft_syntax.specs.declared.term.Case.{Case}
 use Rattle.gft_syntax.specs.declared.term.Local.{Local}
-use Rattle.gft_syntax.specs.declared.term.Local.TheVariants.{Value, Label, TypedValue}
 use Rattle.gft_syntax.specs.declared.term.Term.{Term, roll-Term, out-Term}
 use Rattle.gft_syntax.specs.declared.term.Term.TheOpen as T
 use Rattle.gft_syntax.specs.declared.term.Term.TheFolds.{para-Term, map-Term}
+use Rattle.gft_syntax.specs.Layers.{on_local}
 use Rattle.gft_syntax.specs.Parts.{bound_names, local_names, pattern_parts}
 use Rattle.gft_model.specs.JudgementTyping.{list_name}
 
@@ -50,15 +48,11 @@ abbrev pub resolved_name : Names → Locals → Option (List ℕ) → Reference 
 resolved_name n xs q (R.Written x) = whole_or (R.Written x) (meaning n xs q x)
 resolved_name n xs q r = r
 
--- a name of a pattern without arguments: only a constructor is no variable
-abbrev pub resolved_leaf : Names → Locals → Reference → Reference
-resolved_leaf n xs (R.Written x) = if n.is_constructor x then resolved_name n xs None (R.Written x) else R.Written x
-resolved_leaf n xs r = r
-
--- the names in one layer of a pattern
+-- the names in one layer of a pattern; of those without arguments only constructors are no variables
 abbrev pub pattern_step : Names → Locals → P.Pattern-F Pattern → Pattern
 pattern_step n xs (P.Con m r ps place) = roll-Pattern (P.Con m (resolved_name n xs m r) ps place)
-pattern_step n xs (P.Name r place) = roll-Pattern (P.Name (resolved_leaf n xs r) place)
+pattern_step n xs (P.Name (R.Written x) place) = roll-Pattern
+    (P.Name (if n.is_constructor x then resolved_name n xs None (R.Written x) else R.Written x) place)
 pattern_step n xs d = roll-Pattern d
 
 -- a pattern with its names replaced
@@ -81,17 +75,11 @@ variables_of = fold-Pattern Locals variables_step
 abbrev pub Open : Type 0
 Open = Locals → Term
 
--- a local, whose own names are not among the variables
-abbrev pub resolved_field : Locals → Local (Term × Open) → Local Term
-resolved_field xs (Value ls e) = Value ls (e.1 xs)
-resolved_field xs (Label ls t) = Label ls (t.1 xs)
-resolved_field xs (TypedValue ls t e) = TypedValue ls (t.1 xs) (e.1 xs)
-
--- locals, each seeing those before it, and the variables after them
+-- locals, each seeing those before it and not its own names, and the variables after them
 abbrev pub resolved_locals : Locals → List (Local (Term × Open)) → List (Local Term) × Locals
 resolved_locals xs [] = ([], xs)
 resolved_locals xs (l ∷ ls) =
-    let rest = resolved_locals (local_names l ++ xs) ls in (resolved_field xs l ∷ rest.0, rest.1)
+    let rest = resolved_locals (local_names l ++ xs) ls in (on_local (λ e. e.1 xs) l ∷ rest.0, rest.1)
 
 -- a branch, whose body sees the variables of its pattern
 abbrev pub resolved_case : Names → Locals → Case (Term × Open) → Case Term
@@ -104,18 +92,8 @@ abbrev pub qualified_name : Names → Locals → T.Term-F Term → List ℕ → 
 qualified_name n xs (T.Var (R.Written Q) place) x = meaning n xs (Some Q) x
 qualified_name n xs d x = None
 
--- a whole name or a projection
-abbrev pub projected : Option Whole → Term → List ℕ → Place → Term
-projected None e x place = roll-Term (T.Proj e x place)
-projected (Some w) e x place = roll-Term (T.Var (R.Whole w) place)
-
--- [C] means ListC, whatever the variables are
-abbrev pub list_category : Names → Reference → Reference
-list_category n (R.Written C) = whole_or (R.Written C) (n.means None (list_name C))
-list_category n r = r
-
--- names are replaced, and forms that bind variables hand them on; in every other form the parts stand under
--- the same variables
+-- names are replaced, of which [C] is ListC whatever the variables are; forms that bind variables hand them on, and in
+-- every other form the parts stand under the same ones
 abbrev pub resolve_step : Names → T.Term-F (Term × Open) → Open
 resolve_step n (T.Fun bs e place) xs = roll-Term (T.Fun bs (e.1 (bound_names bs ++ xs)) place)
 resolve_step n (T.TabFun bs e place) xs = roll-Term (T.TabFun bs (e.1 (bound_names bs ++ xs)) place)
@@ -124,9 +102,11 @@ resolve_step n (T.Let ls e place) xs = let r = resolved_locals xs ls in roll-Ter
 resolve_step n (T.TableOf p cs place) xs =
     roll-Term (T.TableOf (option_map (λ t. t.1 xs) p) (map (resolved_case n xs) cs) place)
 resolve_step n (T.CaseOf e cs place) xs = roll-Term (T.CaseOf (e.1 xs) (map (resolved_case n xs) cs) place)
-resolve_step n (T.Proj e x place) xs = projected (qualified_name n xs (out-Term e.0) x) (e.1 xs) x place
+resolve_step n (T.Proj e x place) xs = elim (qualified_name n xs (out-Term e.0) x)
+    [ None ↦ roll-Term (T.Proj (e.1 xs) x place) | Some w ↦ roll-Term (T.Var (R.Whole w) place) ]
 resolve_step n (T.Var r place) xs = roll-Term (T.Var (resolved_name n xs None r) place)
-resolve_step n (T.ListCat r place) xs = roll-Term (T.ListCat (list_category n r) place)
+resolve_step n (T.ListCat (R.Written C) place) xs =
+    roll-Term (T.ListCat (whole_or (R.Written C) (n.means None (list_name C))) place)
 resolve_step n d xs = roll-Term (map-Term (Term × Open) Term (λ t. t.1 xs) d)
 
 -- a term with its names replaced, under local variables
@@ -138,10 +118,6 @@ abbrev pub resolved_contexts : Names → Locals → List Context → List Contex
 resolved_contexts n xs [] = []
 resolved_contexts n xs (c ∷ cs) =
     record { binds = c.binds; of_type = resolved n c.of_type xs } ∷ resolved_contexts n (bound_names c.binds ++ xs) cs
-
--- a constructor with the names in its arguments replaced
-abbrev pub resolved_constructor : Names → Constructor → Constructor
-resolved_constructor n c = record { name = c.name; arguments = resolved_contexts n [] c.arguments }
 
 -- a definition with its names replaced; alternatives of an overload see no arguments
 abbrev pub resolved_definition : Names → Locals → Definition → Definition
@@ -158,7 +134,8 @@ resolved_judgement n (J.Lincat ns t) = J.Lincat ns (resolved n t [])
 resolved_judgement n (J.Lin ns bs e) = J.Lin ns bs (resolved n e (bound_names bs))
 resolved_judgement n (J.Lindef ns bs e) = J.Lindef ns bs (resolved n e (bound_names bs))
 resolved_judgement n (J.Linref ns bs e) = J.Linref ns bs (resolved n e (bound_names bs))
-resolved_judgement n (J.Param p cs) = J.Param p (map (resolved_constructor n) cs)
+resolved_judgement n (J.Param p cs) = J.Param p
+    (map (λ c. record { name = c.name; arguments = resolved_contexts n [] c.arguments }) cs)
 resolved_judgement n (J.OperType ns t) = J.OperType ns (resolved n t [])
 resolved_judgement n (J.OperTyped ns t d) = J.OperTyped ns (resolved n t []) (resolved_definition n [] d)
 resolved_judgement n (J.Oper ns bs d) = J.Oper ns bs (resolved_definition n (bound_names bs) d)
