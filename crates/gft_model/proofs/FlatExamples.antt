@@ -1,7 +1,7 @@
--- A worked example of a resolved grammar: that of resource R2 = {oper mk : Str = "two" ;} alone.
-use Rattle.std.proofs.Common.{◌≡◌, ap, sym, ◌∙◌, refl, ℕ, zero, suc, Bool, true, false, List, [], ◌∷◌, length, Option, Some, None, subst, arith}
+-- Worked examples of resolved grammars: that of resource R2 = {oper mk : Str = "two" ;} alone, and the order of entries.
+use Rattle.std.proofs.Common.{◌≡◌, ap, sym, ◌∙◌, refl, ℕ, zero, suc, Bool, true, false, List, [], ◌∷◌, length, Option, Some, None, subst, arith, inl, inr}
 use Rattle.std.proofs.lemmas.Slice.Eq.{bytes_eq-Decides}
-use Rattle.std.specs.Prelude.{codes, bytes_eq, Contains, slice_get, if◌then◌else◌}
+use Rattle.std.specs.Prelude.{codes, bytes_eq, AllPairs, Contains, ◌≢◌, ◌⊎◌, slice_get, if◌then◌else◌}
 use Rattle.gft_core.specs.declared.place.Place.{Place}
 use Rattle.gft_syntax.specs.declared.flat.Flat.{Flat}
 use Rattle.gft_syntax.specs.declared.flat.FlatJudgement.{FlatJudgement}
@@ -13,8 +13,9 @@ use Rattle.gft_syntax.specs.declared.reference.Whole.{Whole}
 use Rattle.gft_syntax.specs.declared.term.Term.{Term}
 use Rattle.gft_model.specs.Modules.{Is, Has, declares, inherits, keeps, instantiates, HasNameable, at_home, from_opened, from_named, functor_of, Means, own_name, Declared, own, Writes, own_text, inherited_of, opened_of, judgements_of, declared_names, mentions, main_name}
 use Rattle.gft_model.specs.Resolution.{Names, resolved_judgement}
-use Rattle.gft_model.specs.Flats.{whole_of, alone, part_of, IsConstructor, Part, parameters, opers, RestsOn, itself, through, IsMeaning, AreMeanings, IsEntry, HasOfPart, HasAbstract, HasSomewhere, AreListed, IsFlat, categories, functions}
-use Rattle.gft_model.specs.Refusals.{Moment}
+use Rattle.gft_model.specs.Flats.{whole_of, alone, part_of, IsConstructor, Part, parameters, opers, RestsOn, itself, through, IsMeaning, AreMeanings, IsEntry, HasOfPart, HasAbstract, HasSomewhere, Precedes, AreListed, IsFlat, categories, functions}
+use Rattle.gft_model.specs.Refusals.{Moment, Before, sooner, later_on}
+use Rattle.gft_model.proofs.FlatLaws.{listed_once}
 use Rattle.gft_model.proofs.ModuleExamples.{resource_of_mk}
 
 -- what stands in a list of one
@@ -235,3 +236,47 @@ module _ (p : Place) (T e : Term) where
   no_oper_left_out f e h =
       let c = (h.opers_of.all entry).1 (_, has_entry) in
       let none : length f.opers ≡ 0 = ap (λ (es : List FlatJudgement). length es) e in omega (arith, c.1, none)
+
+-- entries stand in the order of their first turns: a, which is met again after b, once and before b
+module _ (a b : FlatJudgement) (differ : a ≢ b) where
+  abbrev met : List (Moment × FlatJudgement)
+  met = (0 ∷ 0 ∷ [], a) ∷ (0 ∷ 1 ∷ [], b) ∷ (1 ∷ [], a) ∷ []
+
+  abbrev IsMet : Moment → FlatJudgement → Type 0
+  IsMet at e = Contains met (at, e)
+
+  -- what is met, and the turns of b
+  which : {at : Moment} {e : FlatJudgement} → IsMet at e → (e ≡ a) ⊎ (e ≡ b)
+  which (zero, c, h) = inl (ap (λ (p : Moment × FlatJudgement). p.1) (sym h))
+  which (suc zero, c, h) = inr (ap (λ (p : Moment × FlatJudgement). p.1) (sym h))
+  which (suc (suc zero), c, h) = inl (ap (λ (p : Moment × FlatJudgement). p.1) (sym h))
+  which (suc (suc (suc k)), c, h) = absurd (omega (arith, c))
+
+  before_b : (at : Moment) → IsMet at b → Before (0 ∷ 0 ∷ []) at
+  before_b at (zero, c, h) = absurd (differ (ap (λ (p : Moment × FlatJudgement). p.1) h))
+  before_b at (suc zero, c, h) = subst (Before (0 ∷ 0 ∷ [])) (ap (λ (p : Moment × FlatJudgement). p.0) h) (later_on (sooner (omega arith)))
+  before_b at (suc (suc zero), c, h) = absurd (differ (ap (λ (p : Moment × FlatJudgement). p.1) h))
+  before_b at (suc (suc (suc k)), c, h) = absurd (omega (arith, c))
+
+  in_order : AllPairs (Precedes IsMet) (a ∷ b ∷ [])
+  in_order zero (suc zero) d l m = (0 ∷ 0 ∷ [], (0, omega arith, refl), before_b)
+  in_order zero zero d l m = absurd (omega (arith, l))
+  in_order zero (suc (suc j)) d l m = absurd (omega (arith, m))
+  in_order (suc i) zero d l m = absurd (omega (arith, l))
+  in_order (suc i) (suc zero) d l m = absurd (omega (arith, l))
+  in_order (suc i) (suc (suc j)) d l m = absurd (omega (arith, m))
+
+  is_met : {e : FlatJudgement} → Contains (a ∷ b ∷ []) e → (at : Moment) × IsMet at e
+  is_met (zero, c, h) = (0 ∷ 0 ∷ [], (0, omega arith, ap (λ (e : FlatJudgement). (0 ∷ 0 ∷ [], e)) h))
+  is_met (suc zero, c, h) = (0 ∷ 1 ∷ [], (1, omega arith, ap (λ (e : FlatJudgement). (0 ∷ 1 ∷ [], e)) h))
+  is_met (suc (suc k), c, h) = absurd (omega (arith, c))
+
+  is_listed : {e : FlatJudgement} → (e ≡ a) ⊎ (e ≡ b) → Contains (a ∷ b ∷ []) e
+  is_listed (inl h) = (0, omega arith, sym h)
+  is_listed (inr h) = (1, omega arith, sym h)
+
+  pub listed : AreListed (a ∷ b ∷ []) IsMet
+  listed = record { all = λ e. (is_met, λ h. is_listed (which h.1)); in_order = in_order }
+
+  pub not_in_another_order : ¬ (AreListed (b ∷ a ∷ []) IsMet)
+  not_in_another_order h = let same = listed_once listed h in let first : a ≡ b = cc in differ first
