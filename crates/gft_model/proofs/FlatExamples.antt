@@ -11,7 +11,7 @@ use Rattle.gft_syntax.specs.declared.judgement.Judgement.TheVariants as J
 use Rattle.gft_syntax.specs.declared.module.Module.{Module}
 use Rattle.gft_syntax.specs.declared.reference.Whole.{Whole}
 use Rattle.gft_syntax.specs.declared.term.Term.{Term}
-use Rattle.gft_model.specs.Modules.{Is, Has, declares, inherits, keeps, instantiates, HasNameable, at_home, from_opened, from_named, functor_of, Means, own_name, Declared, own, Writes, own_text, inherited_of, opened_of, judgements_of, declared_names, mentions, main_name}
+use Rattle.gft_model.specs.Modules.{Is, Has, declares, is_given, inherits, keeps, instantiates, HasNameable, at_home, from_opened, from_named, functor_of, Means, own_name, Declared, own, Writes, own_text, inherited_of, opened_of, judgements_of, declared_names, mentions, main_name}
 use Rattle.gft_model.specs.Resolution.{Names, resolved_judgement}
 use Rattle.gft_model.specs.Flats.{whole_of, alone, part_of, IsConstructor, Part, parameters, opers, RestsOn, itself, through, IsMeaning, AreMeanings, IsEntry, HasOfPart, HasAbstract, HasSomewhere, Precedes, AreListed, IsFlat, categories, functions}
 use Rattle.gft_model.specs.Refusals.{Moment, Before, sooner, later_on}
@@ -62,10 +62,10 @@ module _ (p : Place) (T e : Term) where
   had (declares {x = x} k {j = j} is g c) =
       let only = own_only k (subst (λ m. slice_get (judgements_of m) k ≡ Some j) (is_r2 is) g) in
       (one_of (subst (λ i. Contains (declared_names i) x) (sym only.1) c), ap (own (codes "R2")) only.0)
-  had (inherits is (k, b, f) l h) =
+  had (is_given is (inherits (k, b, f) l h)) =
       absurd (let none = ap (λ m. length (inherited_of m.rest)) (is_r2 is) in omega (arith, b, none))
-  had (keeps is f h w u o) = let same = ap (λ m. m.header) (is_r2 is) in cc
-  had (instantiates is f l h) = let same = ap (λ m. functor_of m.rest) (is_r2 is) in cc
+  had (is_given is (keeps f h w u o)) = let same = ap (λ m. m.header) (is_r2 is) in cc
+  had (is_given is (instantiates f l h)) = let same = ap (λ m. functor_of m.rest) (is_r2 is) in cc
 
   has_mk : HasNameable mods (codes "R2") mk (own (codes "R2") 0)
   has_mk = record {

@@ -17,7 +17,7 @@ use Rattle.gft_syntax.specs.declared.module.Rest.TheVariants.{Own, With}
 use Rattle.gft_syntax.specs.declared.reference.PlacedName.{PlacedName}
 use Rattle.gft_syntax.specs.declared.term.Term.{Term}
 use Rattle.gft_model.specs.Flats.{IsOf}
-use Rattle.gft_model.specs.Modules.{Is, Has, declares, inherits, keeps, instantiates, HasNameable, Sees, from_opened, from_named, functor_of, turn, here, by_argument, Means, own_name, replaced, Declared, own, copy, own_text, inherited_of, inherited_name, judgements_of, declared_names}
+use Rattle.gft_model.specs.Modules.{Is, Has, declares, is_given, inherits, keeps, instantiates, HasNameable, Sees, from_opened, from_named, functor_of, turn, here, by_argument, Means, own_name, replaced, Declared, own, copy, own_text, inherited_of, inherited_name, judgements_of, declared_names}
 
 -- pairs of the same first parts
 same_first : {A B : Type 0} {p q : A × B} → Some p ≡ Some q → p.0 ≡ q.0
@@ -80,10 +80,10 @@ module _ (p : Place) (T e : Term) where
   pub opened_is_not_had : (d : Declared) → ¬ (Has amb (codes "AmbEng") (codes "mk") d)
   opened_is_not_had d (declares k {j = j} is g c) =
       no_other (codes "S") (codes "a") (codes "mk") refl refl refl k (subst (λ m. slice_get (judgements_of m) k ≡ Some j) (is_amb_eng is) g) c
-  opened_is_not_had d (inherits is (k, b, f) l h) =
+  opened_is_not_had d (is_given is (inherits (k, b, f) l h)) =
       absurd (let none = ap (λ m. length (inherited_of m.rest)) (is_amb_eng is) in omega (arith, b, none))
-  opened_is_not_had d (keeps is f h w u o) = let same = ap (λ m. m.header) (is_amb_eng is) in cc
-  opened_is_not_had d (instantiates is f l h) = let same = ap (λ m. functor_of m.rest) (is_amb_eng is) in cc
+  opened_is_not_had d (is_given is (keeps f h w u o)) = let same = ap (λ m. m.header) (is_amb_eng is) in cc
+  opened_is_not_had d (is_given is (instantiates f l h)) = let same = ap (λ m. functor_of m.rest) (is_amb_eng is) in cc
 
   -- mk means the oper of R1 and that of R2: it is ambiguous
   pub first_meaning : Sees amb (codes "AmbEng") None (codes "mk") (own (codes "R1") 0)
@@ -127,14 +127,14 @@ module _ (p : Place) (T e : Term) where
   no_hello_in_functor : (d : Declared) → ¬ (Has hi (codes "HiI") (codes "hello") d)
   no_hello_in_functor d (declares k {j = j} is g c) =
       no_other (codes "S") (codes "hi") (codes "hello") refl refl refl k (subst (λ m. slice_get (judgements_of m) k ≡ Some j) (is_hi_i is) g) c
-  no_hello_in_functor d (inherits is (k, b, f) l h) =
+  no_hello_in_functor d (is_given is (inherits (k, b, f) l h)) =
       absurd (let none = ap (λ m. length (inherited_of m.rest)) (is_hi_i is) in omega (arith, b, none))
-  no_hello_in_functor d (keeps is f h w u o) = let same = ap (λ m. m.header) (is_hi_i is) in cc
-  no_hello_in_functor d (instantiates is f l h) = let same = ap (λ m. functor_of m.rest) (is_hi_i is) in cc
+  no_hello_in_functor d (is_given is (keeps f h w u o)) = let same = ap (λ m. m.header) (is_hi_i is) in cc
+  no_hello_in_functor d (is_given is (instantiates f l h)) = let same = ap (λ m. functor_of m.rest) (is_hi_i is) in cc
 
   -- the with module has a copy of the functor's lin, and no oper that the functor opens
   pub has_copy : Has hi (codes "HiEng") (codes "hi") (copy (codes "HiEng") (own (codes "HiI") 1))
-  has_copy = instantiates refl refl refl (declares 1 refl refl (0, omega arith, refl))
+  has_copy = is_given refl (instantiates refl refl (declares 1 refl refl (0, omega arith, refl)))
 
   -- the copy stands among the copies, where the functor has the lin: own judgement 1 under its name 0
   pub copy_turn : turn hi has_copy ≡ 2 ∷ 3 ∷ 1 ∷ 0 ∷ []
@@ -151,10 +151,10 @@ module _ (p : Place) (T e : Term) where
   pub has_no_hello : (d : Declared) → ¬ (Has hi (codes "HiEng") (codes "hello") d)
   has_no_hello d (declares k {j = j} is g c) =
       let none : None ≡ Some j = subst (λ m. slice_get (judgements_of m) k ≡ Some j) (is_hi_eng is) g in cc
-  has_no_hello d (inherits is (k, b, f) l h) =
+  has_no_hello d (is_given is (inherits (k, b, f) l h)) =
       absurd (let none = ap (λ m. length (inherited_of m.rest)) (is_hi_eng is) in omega (arith, b, none))
-  has_no_hello d (keeps is f h w u o) = let same = ap (λ m. m.header) (is_hi_eng is) in cc
-  has_no_hello d (instantiates {f = f} {ss = ss} {d = c} is g l h) =
+  has_no_hello d (is_given is (keeps f h w u o)) = let same = ap (λ m. m.header) (is_hi_eng is) in cc
+  has_no_hello d (is_given is (instantiates {f = f} {ss = ss} {d = c} g l h)) =
       let same = ap (λ m. functor_of m.rest) (is_hi_eng is) in
       let functor : f ≡ Whole (named (codes "HiI")) = same_first (sym g ∙ same) in
       no_hello_in_functor c (subst (λ i. Has hi (inherited_name i) (codes "hello") c) functor h)

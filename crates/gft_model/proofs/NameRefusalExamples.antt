@@ -17,7 +17,7 @@ use Rattle.gft_syntax.specs.declared.term.Local.TheVariants.{Value}
 use Rattle.gft_syntax.specs.declared.term.Term.{Term, roll-Term, out-Term}
 use Rattle.gft_syntax.specs.declared.term.Term.TheOpen as T
 use Rattle.gft_syntax.specs.declared.term.Term.TheViews.{out-roll-Term}
-use Rattle.gft_model.specs.Modules.{Is, Has, Sees, functor_of, declares, inherits, keeps, instantiates, HasNameable, from_opened, Declared, own, own_text, module_of, inherited_of, judgements_of, opened_of, declared_names}
+use Rattle.gft_model.specs.Modules.{Is, Has, Sees, functor_of, declares, is_given, inherits, keeps, instantiates, HasNameable, from_opened, Declared, own, own_text, module_of, inherited_of, judgements_of, opened_of, declared_names}
 use Rattle.gft_model.specs.NameFaults
 use Rattle.gft_model.specs.HeaderFaults.{Clash}
 use Rattle.gft_model.specs.Refusals.{refusal, sooner, later_on, name_at}
@@ -88,10 +88,10 @@ module _ (t e : Term) where
 
   not_had : (d : Declared) → ¬ (Has mods (codes "AmbEng") mk d)
   not_had d (declares k {j = j} is g c) = not_own k (subst (λ m. slice_get (judgements_of m) k ≡ Some j) (is_amb_eng is) g) c
-  not_had d (inherits is (k, b, f) l h) =
+  not_had d (is_given is (inherits (k, b, f) l h)) =
       absurd (let none = ap (λ m. length (inherited_of m.rest)) (is_amb_eng is) in omega (arith, b, none))
-  not_had d (keeps is f h w u o) = let same = ap (λ m. m.header) (is_amb_eng is) in cc
-  not_had d (instantiates is f l h) = let same = ap (λ m. functor_of m.rest) (is_amb_eng is) in cc
+  not_had d (is_given is (keeps f h w u o)) = let same = ap (λ m. m.header) (is_amb_eng is) in cc
+  not_had d (is_given is (instantiates f l h)) = let same = ap (λ m. functor_of m.rest) (is_amb_eng is) in cc
 
   no_name : {e : Term} {d : T.Term-F Term} → out-Term e ≡ d → ((q : Term) (x : List ℕ) (p : Place) → d ≡ T.Proj q x p → ⊥) →
       ((f a : Term) (p : Place) → d ≡ T.App f a p → ⊥) → NameFaults.IsName e → ⊥

@@ -13,7 +13,7 @@ use Rattle.gft_syntax.specs.declared.module.Inherited.TheVariants.{Whole, Only, 
 use Rattle.gft_syntax.specs.declared.module.Module.{Module}
 use Rattle.gft_syntax.specs.declared.module.Substitution.{Substitution}
 use Rattle.gft_syntax.specs.declared.reference.PlacedName.{PlacedName}
-use Rattle.gft_model.specs.Modules.{is_abstract, is_interface, is_incomplete, is_concrete, placed_names, sort_of, functor_of, restricted_of, inherited_at, opened_at, Is, Has, HasNameable, Writes, OwnName, OpensAs, Declared, copy, header_name, header_mentions, inherited_of, inherited_name, lets_through, judgements_of, opened_of, is_undefined, main_name}
+use Rattle.gft_model.specs.Modules.{is_abstract, is_interface, is_incomplete, is_concrete, placed_names, sort_of, functor_of, restricted_of, Gives, inherited_at, opened_at, Is, Has, HasNameable, Writes, OpensAs, Declared, header_name, header_mentions, inherited_of, inherited_name, judgements_of, opened_of, is_undefined}
 use Rattle.gft_model.specs.Refusals.{Moment, Before, place_moment, name_at, at_name}
 
 -- an instance is a resource too
@@ -83,19 +83,9 @@ module _ (mods : List Module) where
   abbrev pub IsInstanceOf : List ℕ → List ℕ → Type 0
   IsInstanceOf J I = (m : Module) × (n : PlacedName) × (i : PlacedName) × Is mods J m × (m.header ≡ Instance n i) × (i.name ≡ I)
 
-  -- what a module that the header names gives under a name: one that is inherited from, the functor of a
-  -- with, or the interface of an instance, whose judgements the instance keeps
-  pub data Gives (m : Module) (x : List ℕ) : PlacedName → Declared → Type 0 where
-    inherited_gives : {h d : _} → Contains (inherited_of m.rest) h → lets_through h x ≡ true → Has mods (inherited_name h) x d →
-        Gives m x (inherited_at h) d
-    functor_gives : {f ss d : _} → IsWith m f ss → lets_through f x ≡ true → Has mods (inherited_name f) x d →
-        Gives m x (inherited_at f) (copy (header_name m.header).name d)
-    interface_gives : {n i : PlacedName} {d j : _} → m.header ≡ Instance n i → Has mods i.name x d → Writes mods d j →
-        is_undefined j ≡ false → ¬ (OwnName mods m (main_name j x)) → Gives m x i (copy n.name d)
-
-  -- a judgement of that sort
+  -- what a module that the header names gives, of that sort
   abbrev pub GivesOf : Option Keyword → Module → List ℕ → PlacedName → Declared → Type 0
-  GivesOf k m x n d = Gives m x n d × ((j : Judgement) × Writes mods d j × (sort_of j ≡ k))
+  GivesOf k m x n d = Gives mods m x n d × ((j : Judgement) × Writes mods d j × (sort_of j ≡ k))
 
   -- which header rules are broken, at which name, and with which modules beside; named says whether the module is a
   -- named source

@@ -195,22 +195,28 @@ module _ (mods : List Module) where
   abbrev pub OwnName : Module → List ℕ → Type 0
   OwnName m x = (j : Judgement) × Contains (judgements_of m) j × Contains (declared_names j) x
 
-  -- the module has the judgement under the name
-  pub data Has : List ℕ → List ℕ → Declared → Type 0 where
-    declares : {M x : _} (k : ℕ) {m j : _} → Is M m → slice_get (judgements_of m) k ≡ Some j → Contains (declared_names j) x →
-        Has M x (own M k)
-    inherits : {M x : _} {m : Module} {h d : _} → Is M m → Contains (inherited_of m.rest) h → lets_through h x ≡ true →
-        Has (inherited_name h) x d → Has M x d
-    keeps : {M x : _} {m : Module} {n : _} {i : PlacedName} {d j : _} → Is M m → m.header ≡ Instance n i → Has i.name x d →
-        Writes d j → is_undefined j ≡ false → ¬ (OwnName m (main_name j x)) → Has M x (copy M d)
-    instantiates : {M x : _} {m : Module} {f ss d : _} → Is M m → functor_of m.rest ≡ Some (f, ss) → lets_through f x ≡ true →
-        Has (inherited_name f) x d → Has M x (copy M d)
+  mutual
+    -- the module has the judgement under the name: its own, or one that a module which its header names gives
+    pub data Has : List ℕ → List ℕ → Declared → Type 0 where
+      declares : {M x : _} (k : ℕ) {m j : _} → Is M m → slice_get (judgements_of m) k ≡ Some j → Contains (declared_names j) x →
+          Has M x (own M k)
+      is_given : {M x m n d : _} → Is M m → Gives m x n d → Has M x d
+
+    -- what a module that the header names gives under a name: one that is inherited from, the functor of a
+    -- with, or the interface of an instance, whose judgements the instance keeps
+    pub data Gives : Module → List ℕ → PlacedName → Declared → Type 0 where
+      inherits : {m : Module} {x h d : _} → Contains (inherited_of m.rest) h → lets_through h x ≡ true →
+          Has (inherited_name h) x d → Gives m x (inherited_at h) d
+      keeps : {m : Module} {x : _} {n i : PlacedName} {d j : _} → m.header ≡ Instance n i → Has i.name x d → Writes d j →
+          is_undefined j ≡ false → ¬ (OwnName m (main_name j x)) → Gives m x i (copy n.name d)
+      instantiates : {m : Module} {x f ss d : _} → functor_of m.rest ≡ Some (f, ss) → lets_through f x ≡ true →
+          Has (inherited_name f) x d → Gives m x (inherited_at f) (copy (header_name m.header).name d)
 
   -- its turn there: what is inherited comes first, in the order of the header, then the copies, then its own
   abbrev pub turn : {M x : List ℕ} {d : Declared} → Has M x d → Moment
-  turn (inherits is c l h) = 0 ∷ c.0 ∷ turn h
-  turn (keeps is e h w u n) = 1 ∷ turn h
-  turn (instantiates is e l h) = 2 ∷ turn h
+  turn (is_given is (inherits c l h)) = 0 ∷ c.0 ∷ turn h
+  turn (is_given is (keeps e h w u n)) = 1 ∷ turn h
+  turn (is_given is (instantiates e l h)) = 2 ∷ turn h
   turn (declares k is g c) = 3 ∷ k ∷ c.0 ∷ []
 
   -- the module has a judgement under the name that terms may name: no linearization
