@@ -152,9 +152,8 @@ module _ (p : Place) (T e : Term) where
   abbrev entry : FlatJudgement
   entry = record { whole = whole_of mk here; judgement = resolved_judgement names (alone mk text) }
 
-  entry_of_mk : IsEntry mods mk here entry
-  entry_of_mk = record { text = text; writes = own_text 0 refl refl; names = names; meanings = meanings; whole = refl;
-      judgement = refl }
+  entry_of_mk : IsEntry mods mk here text entry
+  entry_of_mk = record { names = names; meanings = meanings; whole = refl; judgement = refl }
 
   rests : {M : List ℕ} → RestsOn mods (codes "R2") M → codes "R2" ≡ M
   rests itself = refl
@@ -170,11 +169,10 @@ module _ (p : Place) (T e : Term) where
       let main : mk ≡ main_name h.judgement h.name = hd.0 ∙ ap (λ k. main_name k h.name) is in
       let whole : f.whole ≡ entry.whole = i.whole ∙ sym (same_whole main hd.1) in
       let judgement : f.judgement ≡ entry.judgement =
-      i.judgement
-      ∙ ap (λ n. resolved_judgement n (alone (main_name h.judgement h.name) i.text)) (names_once i.names (subst (λ c.
-          AreMeanings mods c i.names) hd.1 i.meanings))
-      ∙ ap (λ y. resolved_judgement names (alone y i.text)) (sym main)
-      ∙ ap (λ t. resolved_judgement names (alone mk t)) (sym (written_only (subst (λ c. Writes mods c i.text) hd.1 i.writes))) in
+          i.judgement ∙ ap (λ n. resolved_judgement n (alone (main_name h.judgement h.name) h.judgement))
+          (names_once i.names (subst (λ c. AreMeanings mods c i.names) hd.1 i.meanings))
+          ∙ ap (λ y. resolved_judgement names (alone y h.judgement)) (sym main)
+          ∙ ap (λ t. resolved_judgement names (alone mk t)) (sym is) in
       (cc, λ k. record { whole = whole k; judgement = judgement k })
 
   abbrev chosen : List (List ℕ)

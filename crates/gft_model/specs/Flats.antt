@@ -44,10 +44,7 @@ alone x j = j
 
 -- the parts of a resolved grammar beside its languages
 pub data Part : Type 0 where
-  categories : Part
-  functions : Part
-  parameters : Part
-  opers : Part
+  categories functions parameters opers : Part
 
 -- the part to which a judgement belongs under a name; a constructor stands in its parameter type
 abbrev pub part_of : List ℕ → Judgement → Option Part
@@ -126,9 +123,7 @@ module _ (mods : List Module) where
         ((e : Declared) × (j : Judgement) × Means mods d None x e × Writes mods e j × IsConstructor j x)
 
   -- the entry of a judgement under one of its names
-  pub record IsEntry (x : List ℕ) (d : Declared) (e : FlatJudgement) : Type 0 where
-    pub text : Judgement
-    pub writes : Writes mods d text
+  pub record IsEntry (x : List ℕ) (d : Declared) (text : Judgement) (e : FlatJudgement) : Type 0 where
     pub names : Names
     pub meanings : AreMeanings d names
     pub whole : e.whole ≡ whole_of x d
@@ -144,7 +139,7 @@ module _ (mods : List Module) where
     pub turn_is : turn mods has ≡ at
     pub writes : Writes mods declared judgement
     pub taken : Takes name judgement
-    pub entry : IsEntry (entry_name judgement name) declared e
+    pub entry : IsEntry (entry_name judgement name) declared judgement e
 
   -- what a module has of a part
   abbrev pub HasOfPart : Part → List ℕ → Moment → FlatJudgement → Type 0

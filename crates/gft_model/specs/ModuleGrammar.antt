@@ -29,8 +29,7 @@ use Rattle.gft_model.specs.Grammar.{Tokens, Is, IsReserved, IsNamed, IsNumber, I
 
 -- what is open in a body besides its own brace: a bracket of any kind, or a let
 pub data Opening : Type 0 where
-  bracket : Opening
-  local : Opening
+  bracket local : Opening
 
 -- a closing bracket closes the innermost bracket, and the lets within it; None where no bracket is open
 abbrev pub closed : List Opening → Option (List Opening)
@@ -46,13 +45,7 @@ let_ended (bracket ∷ os) = bracket ∷ let_ended os
 
 -- what a token is to the cutting of a body
 pub data Mark : Type 0 where
-  opening : Mark
-  closing_brace : Mark
-  closing : Mark
-  let_word : Mark
-  in_word : Mark
-  semicolon : Mark
-  other : Mark
+  opening closing_brace closing let_word in_word semicolon other : Mark
 
 -- what a form of a token is to it
 abbrev pub mark_of : TokenForm → Mark
