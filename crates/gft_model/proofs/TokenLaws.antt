@@ -7,14 +7,15 @@ use Rattle.std.proofs.lemmas.List.{append-nil, length-append}
 use Rattle.std.proofs.lemmas.Str.{scalars-chars, utf8_valid_len-IsUtf8}
 use Rattle.std.specs.Char.{is_whitespace}
 use Rattle.std.specs.Cmp.{unsigned_Decides}
-use Rattle.std.specs.List.{list_all}
+use Rattle.std.specs.List.{list_all, position_or_len}
+use Rattle.std.specs.Option.{option_map_or}
 use Rattle.std.specs.Prelude.{⊤, ◌==◌, ◌&&◌, ◌||◌, map, take, drop, chars, IsUtf8, Option, Some, None, option_map, option_and_then, nat_lt, encode_utf8_all, if◌then◌else◌}
 use Rattle.gft_core.specs.declared.place.Place.{Place}
 use Rattle.gft_rules.specs.declared.refusal.Refusal.{Refusal}
 use Rattle.gft_syntax.specs.declared.token.SourceToken.{SourceToken}
 use Rattle.gft_syntax.specs.declared.token.TokenForm.{TokenForm}
 use Rattle.gft_syntax.specs.declared.token.TokenForm.TheVariants.{Quoted, Number}
-use Rattle.gft_model.specs.Source.{Tokens, Lexeme, blank, token, nothing, lexeme_at, longest, longest_from, form_of, token_lexeme, block_lexeme, block_length, line_length, escaped, quoted_text, escape_text, tokens_from, in_range, after, first_place}
+use Rattle.gft_model.specs.Source.{Tokens, Lexeme, blank, token, nothing, lexeme_at, longest, longest_from, form_of, token_lexeme, block_length, escaped, quoted_text, escape_text, tokens_from, in_range, after, first_place}
 use Rattle.gft_model.specs.TokenFaults.{BreaksTokens, Begins, at_start, after_lexeme, not_utf8, bad_character, open_string, bad_escape, open_comment, number_too_large, text_of, loose, moved, length_of, Inside, here, plain, escape, IsClosed}
 
 true_of_and : (a b : Bool) → (a && b) ≡ true → (a ≡ true) × (b ≡ true)
@@ -69,6 +70,9 @@ long_token : (o : Option (TokenForm × ℕ)) → Found o → Long (token_lexeme 
 long_token None h = tt
 long_token (Some t) h = h
 
+abbrev block_lexeme : Option ℕ → Lexeme
+block_lexeme o = option_map_or (λ n. blank (n + 2)) o nothing
+
 long_block : (o : Option ℕ) → Long (block_lexeme o)
 long_block None = tt
 long_block (Some n) = omega arith
@@ -80,7 +84,7 @@ long_at (c ∷ []) =
     (long_token (longest (c ∷ [])) (found_longest [] (c ∷ []) None tt))
 long_at (c ∷ d ∷ cs) =
     either (is_whitespace c) (blank 1) _ (omega arith)
-    (either (c == 45 && d == 45) (blank (line_length cs + 2)) _ (omega arith)
+    (either (c == 45 && d == 45) (blank (position_or_len (λ e. e == 10) cs + 2)) _ (omega arith)
     (either (c == 123 && d == 45) (block_lexeme (block_length cs)) _ (long_block (block_length cs))
     (long_token (longest (c ∷ d ∷ cs)) (found_longest [] (c ∷ d ∷ cs) None tt))))
 
@@ -201,9 +205,9 @@ no_lexeme c (d ∷ cs) e w =
     let f = no_form c (d ∷ cs) e in
     let minus = differs c 45 (c == 45) refl f (λ x. cc) in
     let brace = differs c 123 (c == 123) refl f (λ x. cc) in
-    ap (λ b. if b then blank 1 else if c == 45 && d == 45 then blank (line_length cs + 2)
+    ap (λ b. if b then blank 1 else if c == 45 && d == 45 then blank (position_or_len (λ e. e == 10) cs + 2)
     else if c == 123 && d == 45 then block_lexeme (block_length cs) else token_lexeme (longest (c ∷ d ∷ cs))) w
-    ∙ ap (λ b. if b && d == 45 then blank (line_length cs + 2)
+    ∙ ap (λ b. if b && d == 45 then blank (position_or_len (λ e. e == 10) cs + 2)
     else if c == 123 && d == 45 then block_lexeme (block_length cs) else token_lexeme (longest (c ∷ d ∷ cs))) minus
     ∙ ap (λ b. if b && d == 45 then block_lexeme (block_length cs) else token_lexeme (longest (c ∷ d ∷ cs))) brace
     ∙ ap token_lexeme e

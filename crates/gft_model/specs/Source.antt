@@ -1,6 +1,7 @@
 -- The tokens of a source file.
 use Rattle.std.specs.Prelude.{◌≡◌, ℕ, zero, suc, ◌+◌, ◌*◌, ◌-◌, ◌^◌, List, [], ◌∷◌, ◌++◌, length, Bool, true, false, ◌&&◌, ◌||◌, ◌==◌, nat_le, nat_lt, bytes_eq, chars, codes, encode_utf8_all, IsUtf8, Option, Some, None, option_map, option_and_then, if◌then◌else◌}
-use Rattle.std.specs.List.{list_all}
+use Rattle.std.specs.List.{list_all, position_or_len}
+use Rattle.std.specs.Option.{option_map_or}
 use Rattle.std.specs.Char.{is_whitespace}
 use Rattle.gft_core.specs.Names.{spells_name}
 use Rattle.gft_core.specs.declared.place.Place.{Place}
@@ -75,14 +76,10 @@ abbrev mutual
   escape_text [] = None
   escape_text (c ∷ cs) = option_and_then (λ d. option_map (λ rest. d ∷ rest) (quoted_text cs)) (escaped c)
 
--- the form of a name: reserved, or an identifier
-abbrev pub word_form : List ℕ → TokenForm
-word_form s =
-    elim (spelled_in reserved_words s) [ Some w ↦ Reserved w | None ↦ Identifier (encode_utf8_all s) ]
-
--- the form of a symbol
-abbrev pub symbol_form : List ℕ → Option TokenForm
-symbol_form s = option_map Symbol (spelled_in symbols s)
+-- a name is an identifier, where it is not reserved
+abbrev pub name_form : List ℕ → Option TokenForm
+name_form s = if spells_name s then Some (option_map_or Reserved (spelled_in reserved_words s) (Identifier (encode_utf8_all s)))
+    else None
 
 -- the token that the characters are: digits, a text in quotes, a symbol, or a name
 abbrev pub form_of : List ℕ → Option TokenForm
@@ -91,8 +88,7 @@ form_of (c ∷ cs) =
     if is_digit c then
     (if list_all is_digit cs then Some (Number (number_after 0 (c ∷ cs)) (encode_utf8_all (c ∷ cs))) else None)
     else if c == 34 then option_map (λ t. Quoted (encode_utf8_all t) (encode_utf8_all (c ∷ cs))) (quoted_text cs)
-    else elim (symbol_form (c ∷ cs))
-    [ Some t ↦ Some t | None ↦ (if spells_name (c ∷ cs) then Some (word_form (c ∷ cs)) else None) ]
+    else elim (spelled_in symbols (c ∷ cs)) [ Some s ↦ Some (Symbol s) | None ↦ name_form (c ∷ cs) ]
 
 -- the longest beginning of the characters that is a token, and how many characters it has more than
 -- those before; held are these, and best is the longest so far
@@ -106,12 +102,7 @@ longest_from held (c ∷ cs) best =
 abbrev pub longest : List ℕ → Option (TokenForm × ℕ)
 longest cs = longest_from [] cs None
 
--- the number of characters of a comment to the end of the line
-abbrev pub line_length : List ℕ → ℕ
-line_length [] = 0
-line_length (c ∷ cs) = if c == 10 then 0 else suc (line_length cs)
-
--- that of a comment up to its -}, where there is one
+-- the number of characters of a comment up to its -}, where there is one
 abbrev pub block_length : List ℕ → Option ℕ
 block_length [] = None
 block_length (c ∷ []) = None
@@ -126,22 +117,16 @@ pub data Lexeme : Type 0 where
 
 -- a token, where one begins
 abbrev pub token_lexeme : Option (TokenForm × ℕ) → Lexeme
-token_lexeme None = nothing
-token_lexeme (Some t) = token t.0 t.1
+token_lexeme o = option_map_or (λ t. token t.0 t.1) o nothing
 
--- a comment in braces with its beginning, where it is closed
-abbrev pub block_lexeme : Option ℕ → Lexeme
-block_lexeme None = nothing
-block_lexeme (Some n) = blank (n + 2)
-
--- what begins at the first of the characters
+-- what begins at the first of the characters; a comment goes to the end of the line, or is closed in its braces
 abbrev pub lexeme_at : List ℕ → Lexeme
 lexeme_at [] = nothing
 lexeme_at (c ∷ []) = if is_whitespace c then blank 1 else token_lexeme (longest (c ∷ []))
 lexeme_at (c ∷ d ∷ cs) =
     if is_whitespace c then blank 1
-    else if c == 45 && d == 45 then blank (line_length cs + 2)
-    else if c == 123 && d == 45 then block_lexeme (block_length cs)
+    else if c == 45 && d == 45 then blank (position_or_len (λ e. e == 10) cs + 2)
+    else if c == 123 && d == 45 then option_map_or (λ n. blank (n + 2)) (block_length cs) nothing
     else token_lexeme (longest (c ∷ d ∷ cs))
 
 -- the place after a character: a newline begins a line
