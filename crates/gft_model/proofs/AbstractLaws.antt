@@ -1,6 +1,6 @@
 -- Entries of categories and functions are at most one abstract syntax.
-use Rattle.std.proofs.Common.{◌≡◌, refl, sym, ap, ◌∙◌, subst, ℕ, zero, suc, true, false, List, [], ◌∷◌, ◌++◌, map, Option, Some, arith}
-use Rattle.std.specs.Prelude.{Contains, AllPairs, bytes_eq, codes, position}
+use Rattle.std.proofs.Common.{◌≡◌, refl, sym, ap, ◌∙◌, subst, ℕ, zero, suc, true, false, List, [], ◌∷◌, ◌++◌, map, Option, Some, None, arith}
+use Rattle.std.specs.Prelude.{Contains, AllPairs, bytes_eq, codes, position, option_and_then}
 use Rattle.std.specs.List.{AllZip}
 use Rattle.gft_core.specs.declared.place.Place.{Place}
 use Rattle.gft_core.specs.declared.tree.Tree.{Tree, roll-Tree}
@@ -9,6 +9,7 @@ use Rattle.gft_pmcfg.specs.declared.signature.AType.{AType}
 use Rattle.gft_pmcfg.specs.declared.signature.Abstract.{Abstract}
 use Rattle.gft_pmcfg.specs.declared.signature.Cat.{Cat}
 use Rattle.gft_pmcfg.specs.declared.signature.Fun.{Fun}
+use Rattle.gft_syntax.specs.declared.flat.Flat.{Flat}
 use Rattle.gft_syntax.specs.declared.flat.FlatJudgement.{FlatJudgement}
 use Rattle.gft_syntax.specs.declared.bind.Bind.{Bind}
 use Rattle.gft_syntax.specs.declared.judgement.Context.{Context}
@@ -22,7 +23,6 @@ use Rattle.gft_model.specs.AbstractFaults.{Indexed, without_indices, variables_o
 use Rattle.gft_model.specs.AbstractParts.{IsNumbered, IsSorted, IsCategory, IsFunction, IsAbstractPart}
 use Rattle.gft_model.specs.ConcreteTypes.{field_of}
 use Rattle.gft_model.specs.ConcreteTyping.{Spine, applied_to, at_head}
-use Rattle.gft_model.specs.Flats.{start_of}
 use Rattle.gft_model.specs.JudgementTyping.{name_of, list_name, signature_given}
 use Rattle.gft_model.specs.Refusals.{Before, name_moment}
 use Rattle.gft_model.specs.States.{category_number}
@@ -187,12 +187,12 @@ numbered_once a b h A t u x y =
 -- ALL OF IT
 
 -- the names of the categories are those of their entries
-listed_names : (cats funs : List FlatJudgement) (a : Abstract) (es : List FlatJudgement) (cs : List Cat) →
-    AllZip (IsCategory cats funs a) es cs → map entry_name es ≡ cat_names cs
-listed_names cats funs a [] [] z = refl
-listed_names cats funs a [] (c ∷ cs) z = absurd z
-listed_names cats funs a (e ∷ es) [] z = absurd z
-listed_names cats funs a (e ∷ es) (c ∷ cs) z = let name = z.0.name in let rest = listed_names cats funs a es cs z.1 in cc
+listed_names : (flat : Flat) (a : Abstract) (es : List FlatJudgement) (cs : List Cat) →
+    AllZip (IsCategory flat a) es cs → map entry_name es ≡ cat_names cs
+listed_names flat a [] [] z = refl
+listed_names flat a [] (c ∷ cs) z = absurd z
+listed_names flat a (e ∷ es) [] z = absurd z
+listed_names flat a (e ∷ es) (c ∷ cs) z = let name = z.0.name in let rest = listed_names flat a es cs z.1 in cc
 
 abbrev built_in_and : List Cat → List Cat
 built_in_and cs = record { name = codes "Int"; context = [] } ∷ record { name = codes "String"; context = [] } ∷ cs
@@ -223,8 +223,14 @@ module _ {cats funs : List FlatJudgement} where
         ap (λ x. without_indices (list_name (name_of x))) names,
       )
 
-  category_once : {sorted : List FlatJudgement} → IsSorted cats sorted → (a b : Abstract) → cat_names a.cats ≡ cat_names b.cats →
-      (e : FlatJudgement) (c d : Cat) → IsCategory cats funs a e c → IsCategory cats funs b e d → c ≡ d
+start_once : (a b : Abstract) (start : Option (List ℕ)) → cat_names a.cats ≡ cat_names b.cats
+    → option_and_then (category_number a) start ≡ option_and_then (category_number b) start
+start_once a b None h = refl
+start_once a b (Some C) h = number_once a b C h
+
+module _ {flat : Flat} where
+  category_once : {sorted : List FlatJudgement} → IsSorted flat.cats sorted → (a b : Abstract) → cat_names a.cats ≡ cat_names b.cats →
+      (e : FlatJudgement) (c d : Cat) → IsCategory flat a e c → IsCategory flat b e d → c ≡ d
   category_once s a b h e c d x y =
       let contexts = has_context_once s x.has_context y.has_context in
       let name : c.name ≡ d.name = sym x.name ∙ y.name in
@@ -232,9 +238,9 @@ module _ {cats funs : List FlatJudgement} where
       (subst (λ As. AllZip (IsNumbered b) As d.context) (sym contexts) y.numbered) in
       λ i. record { name = name i; context = context i }
 
-  a_function_once : {sorted : List FlatJudgement} → IsSorted funs sorted → (a b : Abstract)
+  a_function_once : {sorted : List FlatJudgement} → IsSorted flat.funs sorted → (a b : Abstract)
       → cat_names a.cats ≡ cat_names b.cats →
-      (e : FlatJudgement) (f g : Fun) → IsFunction cats funs a e f → IsFunction cats funs b e g → f ≡ g
+      (e : FlatJudgement) (f g : Fun) → IsFunction flat a e f → IsFunction flat b e g → f ≡ g
   a_function_once s a b h e f g x y =
       let signatures = has_signature_once s x.has_signature y.has_signature in
       let name : f.name ≡ g.name = sym x.name ∙ y.name in
@@ -244,24 +250,24 @@ module _ {cats funs : List FlatJudgement} where
       (subst (λ R. IsNumbered b R g.result) (sym signatures.1) y.result_numbered) in
       λ i. record { name = name i; args = args i; result = result i }
 
-  pub abstract_once : {name : List ℕ} {js : List Judgement} (a b : Abstract) → IsAbstractPart cats funs a name js
-      → IsAbstractPart cats funs b name js → a ≡ b
-  abstract_once {js = js} a b x y =
+  pub abstract_once : (a b : Abstract) → IsAbstractPart flat a → IsAbstractPart flat b → a ≡ b
+  abstract_once a b x y =
       let cats_same = sorted_once x.cats_by_name y.cats_by_name in
       let funs_same = sorted_once x.funs_by_name y.funs_by_name in
-      let categories = subst (λ es. AllZip (IsCategory cats funs b) es y.listed) (sym cats_same) y.categories in
-      let functions = subst (λ es. AllZip (IsFunction cats funs b) es b.funs) (sym funs_same) y.functions in
+      let categories = subst (λ es. AllZip (IsCategory flat b) es y.listed) (sym cats_same) y.categories in
+      let functions = subst (λ es. AllZip (IsFunction flat b) es b.funs) (sym funs_same) y.functions in
       let listed : cat_names x.listed ≡ cat_names y.listed =
-      sym (listed_names cats funs a x.sorted_cats x.listed x.categories)
-          ∙ listed_names cats funs b x.sorted_cats y.listed categories in
+      sym (listed_names flat a x.sorted_cats x.listed x.categories)
+          ∙ listed_names flat b x.sorted_cats y.listed categories in
       let names : cat_names a.cats ≡ cat_names b.cats =
       ap cat_names x.built_in ∙ ap (λ ns. codes "Int" ∷ codes "String" ∷ ns) listed ∙ ap cat_names (sym y.built_in) in
       let same_listed = zips_once (category_once x.cats_by_name a b names) x.sorted_cats x.listed y.listed x.categories
           categories in
-      let name = x.is_named ∙ sym y.is_named in
+      let named : Some a.name ≡ Some b.name = sym x.is_named ∙ y.is_named in
+      let name : a.name ≡ b.name = cc in
       let all_cats = x.built_in ∙ ap built_in_and same_listed ∙ sym y.built_in in
       let all_funs = zips_once (a_function_once x.funs_by_name a b names) x.sorted_funs a.funs b.funs x.functions functions in
       let begins : Some a.start ≡ Some b.start =
-          sym x.starts ∙ number_once a b (start_of (map entry_name cats) js) names ∙ y.starts in
+          sym x.starts ∙ start_once a b flat.start names ∙ y.starts in
       let start : a.start ≡ b.start = cc in
       λ i. record { name = name i; start = start i; cats = all_cats i; funs = all_funs i }

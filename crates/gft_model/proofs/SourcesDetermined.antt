@@ -6,12 +6,11 @@ use Rattle.gft_pmcfg.specs.declared.concrete.Concrete.{Concrete}
 use Rattle.gft_pmcfg.specs.declared.signature.Abstract.{Abstract as AbstractSyntax}
 use Rattle.gft_syntax.specs.declared.flat.Flat.{Flat}
 use Rattle.gft_syntax.specs.declared.module.Module.{Module}
-use Rattle.gft_syntax.specs.declared.reference.PlacedName.{PlacedName}
 use Rattle.gft_model.specs.Commands.{EndsIn, source_ending}
 use Rattle.gft_model.specs.AbstractParts.{IsAbstractPart}
 use Rattle.gft_model.specs.Import.{BreaksImport, sources, HasPart, of_its_source, of_portable, HasLanguage, of_module, GivesPart, abstract_part, with_language, IsView, AreTypings}
 use Rattle.gft_model.specs.Loading.{Loading, base_of, loaded, LoadsNamed, nothing_loaded}
-use Rattle.gft_model.specs.Modules.{is_abstract, module_named, judgements_of}
+use Rattle.gft_model.specs.Modules.{is_abstract, module_named}
 use Rattle.gft_model.specs.States.{Loaded, of_file, of_source, Gives, source, portable}
 use Rattle.gft_model.proofs.AbstractLaws.{abstract_once}
 use Rattle.gft_model.proofs.AnswerLaws.{IsDetermined}
@@ -29,18 +28,11 @@ loaded_once x y = let h = named_once x y in cc
 -- the abstract syntax and the language of a source
 has_part_once : {files : Files} {mods : List Module} {file : List ℕ} {a b : AbstractSyntax} → EndsIn source_ending file
     → HasPart files mods file a → HasPart files mods file b → a ≡ b
-has_part_once {mods = mods} {a = a} {b = b} ends (of_its_source {m} {A} {abstract} {flat} e v h i p)
-    (of_its_source {m = k} {A = B} {abstract = other} {flat = view} f w j l q) =
+has_part_once {mods = mods} {a = a} {b = b} ends (of_its_source {m} {flat} e v p) (of_its_source {m = k} {flat = view} f w q) =
     let same : m ≡ k = cc in
     let flats = flat_once mods _ flat view v (subst (λ n. IsView mods n view) (sym same) w) in
-    let name : Some A ≡ Some B = sym h ∙ ap (λ (g : Flat). g.name) flats ∙ j in
-    let names : A ≡ B = cc in
-    let found : Some abstract ≡ Some other = sym i ∙ ap (module_named mods) names ∙ l in
-    let there : abstract ≡ other = cc in
-    abstract_once a b p (subst (λ (g : Flat). IsAbstractPart g.cats g.funs b A (judgements_of abstract)) (sym flats)
-    (subst (λ n. IsAbstractPart view.cats view.funs b A (judgements_of n)) (sym there)
-    (subst (λ N. IsAbstractPart view.cats view.funs b N (judgements_of other)) (sym names) q)))
-has_part_once ends (of_its_source e v h i p) (of_portable j k l) = absurd (endings_apart ends j)
+    abstract_once a b p (subst (λ g. IsAbstractPart g b) (sym flats) q)
+has_part_once ends (of_its_source e v p) (of_portable j k l) = absurd (endings_apart ends j)
 has_part_once ends (of_portable i j k) y = absurd (endings_apart ends i)
 
 language_once : {mods : List Module} {file L M : List ℕ} {f g : Flat} → HasLanguage mods file L f

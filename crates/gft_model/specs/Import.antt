@@ -15,7 +15,7 @@ use Rattle.gft_model.specs.Items.{items_of}
 use Rattle.gft_model.specs.JudgementOrder.{Turns, HasTyped, HasNew, IsMet, typed_again}
 use Rattle.gft_model.specs.JudgementTyping.{IsTyped}
 use Rattle.gft_model.specs.Loading.{base_of, Loading, loaded, refused, LoadsNamed, nothing_loaded, HasFiles}
-use Rattle.gft_model.specs.Modules.{is_abstract, is_interface, is_incomplete, header_name, header_mentions, module_named, judgements_of, names_of}
+use Rattle.gft_model.specs.Modules.{is_abstract, is_interface, is_incomplete, header_name, header_mentions, module_named, names_of}
 use Rattle.gft_model.specs.NameFaults.{AreConstructors, BreaksNames}
 use Rattle.gft_model.specs.PortableFile
 use Rattle.gft_model.specs.Refusals.{Moment, IsFirst, IsAccepted, placeless, place_moment, name_moment, at_name, modules_moment}
@@ -86,9 +86,8 @@ is_named names m = list_any (λ file. bytes_eq (base_of file) (header_name m.hea
 
 -- the abstract syntax that a named file gives
 pub data HasPart (files : Files) (mods : List Module) (file : List ℕ) : AbstractSyntax → Type 0 where
-  of_its_source : {m A abstract a : _} {flat : Flat} → module_named mods (base_of file) ≡ Some m → IsView mods m flat →
-      flat.name ≡ Some A → module_named mods A ≡ Some abstract →
-      IsAbstractPart flat.cats flat.funs a A (judgements_of abstract) → HasPart files mods file a
+  of_its_source : {m flat a : _} → module_named mods (base_of file) ≡ Some m → IsView mods m flat → IsAbstractPart flat a →
+      HasPart files mods file a
   of_portable : {bytes : _} {g : Grammar} → EndsIn portable_ending file → get files file ≡ Some bytes →
       PortableFile.Reads bytes g → HasPart files mods file g.abs
 
