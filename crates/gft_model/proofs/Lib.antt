@@ -81,6 +81,7 @@ pub mod LoadingLaws
 pub mod TokenLaws
 pub mod RefusalExamples
 pub mod CompileRefusalExamples
+pub mod HeaderRefusalExamples
 pub mod NameRefusalExamples
 pub mod AbstractLaws
 pub mod AbstractRefusalExamples

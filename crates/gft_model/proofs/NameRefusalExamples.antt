@@ -1,6 +1,7 @@
--- A worked example of a name that two opened modules give: the mk of AmbEng is ambiguous, and means something.
+-- Worked examples of names: the mk of AmbEng, which two opened modules give, is ambiguous, and means something; what is before a
+-- dot; a variable that a pattern binds twice.
 use Rattle.std.proofs.Common.{◌≡◌, ap, sym, ◌∙◌, refl, ℕ, zero, suc, true, false, Bool, List, [], ◌∷◌, ◌++◌, length, Some, None, subst, arith}
-use Rattle.std.specs.Prelude.{codes, bytes_eq, Contains, slice_get}
+use Rattle.std.specs.Prelude.{codes, bytes_eq, Contains, slice_get, not, ◌||◌, if◌then◌else◌}
 use Rattle.gft_core.specs.declared.place.Place.{Place}
 use Rattle.gft_rules.specs.Rules.{code_of}
 use Rattle.gft_rules.specs.declared.rule.Rule.TheVariants as R
@@ -13,7 +14,12 @@ use Rattle.gft_syntax.specs.declared.module.Opened.TheVariants.{Plain}
 use Rattle.gft_syntax.specs.declared.module.Rest.TheVariants.{Own}
 use Rattle.gft_syntax.specs.declared.reference.PlacedName.{PlacedName}
 use Rattle.gft_syntax.specs.declared.reference.Reference.TheVariants.{Written}
+use Rattle.gft_syntax.specs.declared.pattern.Pattern.{Pattern, roll-Pattern}
+use Rattle.gft_syntax.specs.declared.pattern.Pattern.TheOpen as P
+use Rattle.gft_syntax.specs.declared.pattern.Pattern.TheFolds.{fold-roll-Pattern}
+use Rattle.gft_syntax.specs.declared.term.Case.{Case}
 use Rattle.gft_syntax.specs.declared.term.Local.TheVariants.{Value}
+use Rattle.gft_model.specs.Resolution.{is_local}
 use Rattle.gft_syntax.specs.declared.term.Term.{Term, roll-Term, out-Term}
 use Rattle.gft_syntax.specs.declared.term.Term.TheOpen as T
 use Rattle.gft_syntax.specs.declared.term.Term.TheViews.{out-roll-Term}
@@ -156,3 +162,51 @@ module _ (t e : Term) where
   pub used_qualified : (is_constructor : List ℕ → Bool) → NameFaults.Opens mods with_nope (codes "Nope") →
       NameFaults.Uses mods with_nope is_constructor (Some (codes "Nope")) (name_at (codes "x") (here 4 11))
   used_qualified is_constructor opened = NameFaults.after_dot (dotted is_constructor) opened
+
+-- lin c = case "a" of {y + y => "b"}: y is bound twice, the second time at 5:20
+abbrev y : List ℕ
+y = codes "y"
+
+abbrev y_at : ℕ → Pattern
+y_at col = roll-Pattern (P.Name (Written y) (here 5 col))
+
+abbrev y_and_y : Pattern
+y_and_y = roll-Pattern (P.Seq (y_at 16) (y_at 20) (here 5 16))
+
+abbrev y_branch : Case Term
+y_branch = record { pattern = y_and_y; body = roll-Term (T.Lit (codes "b") (here 5 25)) }
+
+abbrev case_of_a : Term
+case_of_a = roll-Term (T.CaseOf (roll-Term (T.Lit (codes "a") (here 5 10))) (y_branch ∷ []) (here 5 5))
+
+abbrev case_module : Module
+case_module = record {
+  header = Concrete (named 10 (codes "C")) (named 20 (codes "A"));
+  rest = Own [] (record { opened = []; judgements = J.Lin (named 30 (codes "c") ∷ []) [] case_of_a ∷ [] });
+}
+
+module _ (mods : List Module) (is_constructor : List ℕ → Bool) (is_variable : is_constructor y ≡ false) where
+  one_y : (col : ℕ) → NameFaults.bound_in is_constructor [] (y_at col) ≡ name_at y (here 5 col) ∷ []
+  one_y col =
+      fold-roll-Pattern (List PlacedName) (NameFaults.bound_step (λ x. is_local x [] || not (is_constructor x))) (P.Name (Written y) (here 5 col))
+      ∙ ap (λ b. if not b then name_at y (here 5 col) ∷ [] else []) is_variable
+
+  two_y : NameFaults.bound_in is_constructor [] y_and_y ≡ name_at y (here 5 16) ∷ name_at y (here 5 20) ∷ []
+  two_y =
+      let parts_bound : NameFaults.bound_in is_constructor [] y_and_y
+          ≡ NameFaults.bound_in is_constructor [] (y_at 16) ++ (NameFaults.bound_in is_constructor [] (y_at 20) ++ []) =
+      fold-roll-Pattern (List PlacedName) (NameFaults.bound_step (λ x. is_local x [] || not (is_constructor x)))
+          (P.Seq (y_at 16) (y_at 20) (here 5 16)) in
+      parts_bound ∙ (λ i. one_y 16 i ++ (one_y 20 i ++ []))
+
+  in_branch : NameFaults.HasPattern mods case_module is_constructor [] y_and_y
+  in_branch = (
+    false, case_of_a, record { names = []; pattern = Some y_and_y; is_type = false; part = y_branch.body },
+    NameFaults.in_judgement {j = J.Lin (named 30 (codes "c") ∷ []) [] case_of_a} (0, omega arith, refl) (0, omega arith, refl),
+    subst (λ d. Contains (parts d) (record { names = []; pattern = Some y_and_y; is_type = false; part = y_branch.body }))
+    (sym (out-roll-Term _)) (1, omega arith, refl),
+    (0, omega arith, refl),
+  )
+
+  pub y_is_bound_twice : NameFaults.BreaksNames mods case_module is_constructor R.PatternVars (name_at y (here 5 20)) []
+  y_is_bound_twice = NameFaults.bound_twice (name_at y (here 5 16) ∷ []) [] in_branch two_y (0, omega arith, refl)
