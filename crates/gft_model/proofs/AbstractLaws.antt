@@ -113,7 +113,7 @@ module _ {cats funs : List FlatJudgement} where
       let second : b ≡ d = cc in
       let same = type_once t (subst (λ f. ReadsType cats funs Γ f B) (sym first) u) in
       let scope : record { binds = ys; of_type = c } ∷ Γ ≡ record { binds = xs; of_type = a } ∷ Γ =
-          λ i. record { binds = sym binds i; of_type = sym first i } ∷ Γ in
+      λ i. record { binds = sym binds i; of_type = sym first i } ∷ Γ in
       let rest = function_once second r (subst (λ Δ. ReadsFunction cats funs Δ d Bs S) scope s) in
       (λ i. for_each (binds i) (same i) ++ rest.0 i, rest.1)
   function_once e (takes h t r) (gives u) = absurd (no_arrow u (ap out-Term (sym e) ∙ h))
@@ -142,8 +142,12 @@ same_entry (x ∷ es) {f = f} o (zero, b, i) (suc k, c, j) h =
 same_entry (x ∷ es) {e = e} o (suc k, b, i) (zero, c, j) h =
     absurd (never x e (ap entry_name j ∙ sym h) (head_first ByName x e es o (k, omega (arith, b), i)))
 same_entry (x ∷ es) o (suc k, b, i) (suc n, c, j) h =
-    same_entry es (λ m n d l u. o (suc m) (suc n) d (omega (arith, l)) (omega (arith, u))) (k, omega (arith, b), i) (n, omega
-        (arith, c), j) h
+    same_entry es (λ m n d l u. o (suc m) (suc n) d (omega (arith, l)) (omega (arith, u))) (k, omega (arith, b), i) (
+      n,
+      omega
+          (arith, c),
+      j,
+    ) h
 
 sorted_once : {es xs ys : List FlatJudgement} → IsSorted es xs → IsSorted es ys → xs ≡ ys
 sorted_once {xs = xs} {ys = ys} x y = order_once ByName (λ e f p q. never_both p q refl refl) xs ys x.in_order y.in_order
@@ -258,16 +262,16 @@ module _ {flat : Flat} where
       let functions = subst (λ es. AllZip (IsFunction flat b) es b.funs) (sym funs_same) y.functions in
       let listed : cat_names x.listed ≡ cat_names y.listed =
       sym (listed_names flat a x.sorted_cats x.listed x.categories)
-          ∙ listed_names flat b x.sorted_cats y.listed categories in
+      ∙ listed_names flat b x.sorted_cats y.listed categories in
       let names : cat_names a.cats ≡ cat_names b.cats =
       ap cat_names x.built_in ∙ ap (λ ns. codes "Int" ∷ codes "String" ∷ ns) listed ∙ ap cat_names (sym y.built_in) in
       let same_listed = zips_once (category_once x.cats_by_name a b names) x.sorted_cats x.listed y.listed x.categories
-          categories in
+      categories in
       let named : Some a.name ≡ Some b.name = sym x.is_named ∙ y.is_named in
       let name : a.name ≡ b.name = cc in
       let all_cats = x.built_in ∙ ap built_in_and same_listed ∙ sym y.built_in in
       let all_funs = zips_once (a_function_once x.funs_by_name a b names) x.sorted_funs a.funs b.funs x.functions functions in
       let begins : Some a.start ≡ Some b.start =
-          sym x.starts ∙ start_once a b flat.start names ∙ y.starts in
+      sym x.starts ∙ start_once a b flat.start names ∙ y.starts in
       let start : a.start ≡ b.start = cc in
       λ i. record { name = name i; start = start i; cats = all_cats i; funs = all_funs i }

@@ -110,12 +110,20 @@ tag_of_seven = J.Fun (named (codes "t") ∷ []) (roll-Term (T.App tag_term seven
 
 kind_expected : AbstractFaults.Expects kinds [] [] tag_term (AbstractFaults.without_indices (codes "Kind"))
 kind_expected = (
-  tag_term, [], whole (codes "Tag"), AbstractFaults.without_indices (codes "Kind") ∷ [], [], AbstractFaults.without_indices (codes "Kind"),
-  a_name [] _ _ [], ap AbstractFaults.head_name (out-roll-Term _),
+  tag_term,
+  [],
+  whole (codes "Tag"),
+  AbstractFaults.without_indices (codes "Kind") ∷ [],
+  [],
+  AbstractFaults.without_indices (codes "Kind"),
+  a_name [] _ _ [],
+  ap AbstractFaults.head_name (out-roll-Term _),
   AbstractFaults.by_category (AbstractFaults.its_context (1, omega arith, refl) (AbstractFaults.more_context
-    (AbstractFaults.indexed (a_name [] _ _ []) (ap AbstractFaults.head_name (out-roll-Term _)) (0, omega arith, refl) AbstractFaults.no_index)
-    AbstractFaults.no_context)),
-  AbstractFaults.no_index, refl, refl,
+      (AbstractFaults.indexed (a_name [] _ _ []) (ap AbstractFaults.head_name (out-roll-Term _)) (0, omega arith, refl) AbstractFaults.no_index)
+      AbstractFaults.no_context)),
+  AbstractFaults.no_index,
+  refl,
+  refl,
 )
 
 module _ (LeftOut : Whole → Type 0) where

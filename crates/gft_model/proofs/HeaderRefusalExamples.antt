@@ -41,11 +41,16 @@ module _ (t e : Term) where
 
   p_clash : HeaderFaults.Clash (HeaderFaults.GivesOf mods None both (codes "P")) (named 14 (codes "X")) (named 17 (codes "Y"))
   p_clash = (
-    own (codes "X") 0, own (codes "Y") 0,
-    (HeaderFaults.inherited_gives {h = Whole (named 14 (codes "X"))} (0, omega arith, refl) refl (declares 0 refl refl (0, omega arith, refl)),
-    (J.OperTyped (named 20 (codes "P") ∷ []) t (D.Term e), own_text 0 refl refl, refl)),
-    (HeaderFaults.inherited_gives {h = Whole (named 17 (codes "Y"))} (1, omega arith, refl) refl (declares 0 refl refl (0, omega arith, refl)),
-    (J.OperTyped (named 20 (codes "P") ∷ []) t (D.Term e), own_text 0 refl refl, refl)),
+    own (codes "X") 0,
+    own (codes "Y") 0,
+    (
+      HeaderFaults.inherited_gives {h = Whole (named 14 (codes "X"))} (0, omega arith, refl) refl (declares 0 refl refl (0, omega arith, refl)),
+      (J.OperTyped (named 20 (codes "P") ∷ []) t (D.Term e), own_text 0 refl refl, refl),
+    ),
+    (
+      HeaderFaults.inherited_gives {h = Whole (named 17 (codes "Y"))} (1, omega arith, refl) refl (declares 0 refl refl (0, omega arith, refl)),
+      (J.OperTyped (named 20 (codes "P") ∷ []) t (D.Term e), own_text 0 refl refl, refl),
+    ),
     λ q. let wrong : true ≡ false = ap (λ d. bytes_eq (module_of d) (codes "X")) q in cc,
     later_on (sooner (omega arith)),
   )

@@ -117,7 +117,8 @@ module _ (t e : Term) where
 
   mk_clash : Clash (NameFaults.Gives mods amb_eng mk None) (named 31 (codes "R1")) (named 35 (codes "R2"))
   mk_clash = (
-    own (codes "R1") 0, own (codes "R2") 0,
+    own (codes "R1") 0,
+    own (codes "R2") 0,
     NameFaults.for_bare (0, omega arith, refl) (λ d h. not_had d h.has) (mk_of (codes "R1") refl),
     NameFaults.for_bare (1, omega arith, refl) (λ d h. not_had d h.has) (mk_of (codes "R2") refl),
     λ q. let wrong : true ≡ false = ap (λ d. bytes_eq (module_of d) (codes "R1")) q in cc,
@@ -151,7 +152,14 @@ module _ (t e : Term) where
   dotted : (is_constructor : List ℕ → Bool) →
       NameFaults.IsDotted mods with_nope is_constructor (name_at (codes "Nope") (here 4 12)) (name_at (codes "x") (here 4 11))
   dotted is_constructor = (
-    [], false, _, _, NameFaults.in_judgement {j = use_of_nope} (2, omega arith, refl) (0, omega arith, refl), out-roll-Term _, out-roll-Term _, refl,
+    [],
+    false,
+    _,
+    _,
+    NameFaults.in_judgement {j = use_of_nope} (2, omega arith, refl) (0, omega arith, refl),
+    out-roll-Term _,
+    out-roll-Term _,
+    refl,
   )
 
   pub used_alone : (is_constructor : List ℕ → Bool) → ¬ (NameFaults.Opens mods with_nope (codes "Nope")) →
@@ -194,17 +202,19 @@ module _ (mods : List Module) (is_constructor : List ℕ → Bool) (is_variable 
   two_y : NameFaults.bound_in is_constructor [] y_and_y ≡ name_at y (here 5 16) ∷ name_at y (here 5 20) ∷ []
   two_y =
       let parts_bound : NameFaults.bound_in is_constructor [] y_and_y
-          ≡ NameFaults.bound_in is_constructor [] (y_at 16) ++ (NameFaults.bound_in is_constructor [] (y_at 20) ++ []) =
+      ≡ NameFaults.bound_in is_constructor [] (y_at 16) ++ (NameFaults.bound_in is_constructor [] (y_at 20) ++ []) =
       fold-roll-Pattern (List PlacedName) (NameFaults.bound_step (λ x. is_local x [] || not (is_constructor x)))
-          (P.Seq (y_at 16) (y_at 20) (here 5 16)) in
+      (P.Seq (y_at 16) (y_at 20) (here 5 16)) in
       parts_bound ∙ (λ i. one_y 16 i ++ (one_y 20 i ++ []))
 
   in_branch : NameFaults.HasPattern mods case_module is_constructor [] y_and_y
   in_branch = (
-    false, case_of_a, record { names = []; pattern = Some y_and_y; is_type = false; part = y_branch.body },
+    false,
+    case_of_a,
+    record { names = []; pattern = Some y_and_y; is_type = false; part = y_branch.body },
     NameFaults.in_judgement {j = J.Lin (named 30 (codes "c") ∷ []) [] case_of_a} (0, omega arith, refl) (0, omega arith, refl),
     subst (λ d. Contains (parts d) (record { names = []; pattern = Some y_and_y; is_type = false; part = y_branch.body }))
-    (sym (out-roll-Term _)) (1, omega arith, refl),
+        (sym (out-roll-Term _)) (1, omega arith, refl),
     (0, omega arith, refl),
   )
 
