@@ -4,7 +4,6 @@ use Rattle.std.specs.List.{list_all}
 use Rattle.std.specs.Option.{is_some}
 use Rattle.std.specs.Prelude.{Bool, ◌&&◌}
 use Rattle.gft_core.specs.declared.place.Place.{Place}
-use Rattle.gft_syntax.specs.declared.bind.Bind.{Bind}
 use Rattle.gft_syntax.specs.declared.ctype.CType.{CType, out-CType}
 use Rattle.gft_syntax.specs.declared.ctype.CType.TheOpen as C
 use Rattle.gft_syntax.specs.declared.ctype.CType.TheViews.{out-roll-CType}
@@ -19,7 +18,7 @@ use Rattle.gft_syntax.specs.declared.term.Term.{Term}
 use Rattle.gft_syntax.specs.declared.term.Term.TheOpen as F
 use Rattle.gft_syntax.specs.Parts.{is_value}
 use Rattle.gft_model.specs.ConcreteTypes.{record_in, table_in, IsSubtype, equal, fewer_labels, tables, numbers, functions}
-use Rattle.gft_model.specs.ConcreteTyping.{is_term_first, is_table_expression, passes, Spine, applied_to, at_head, Fits, same, cut, sort, IsType, IsData, an_overload, Stands, Takes, takes_none, takes, Suits, suits_by, Chosen, parameter_of, AreLabels, no_label, label, text_type, type_of_types, type_of_parameters, numbers_to, labels, table_over, function_from, pair_of, parameters_named, oper_named, definition_named, with_names, with_lets, Finds, Checks, ChecksLambda, body, binds, ChecksTable, cell, over, ChecksArguments, no_argument_left, next_argument, FindsAll, none_found, next_found, MembersFind, first_member, MembersCheck, no_member, member, BranchesFind, first_branch, BranchesCheck, no_branch, branch, FieldsHave, no_field, value_given, value_found, typed_given, typed_alone, Defines, no_local, local, typed_local, variable, constructor_name, typed_oper, untyped_oper, alternative_alone, parameter_name, literal, append, glue, number, predef, projection, application, overloaded, selection, branch_over, branch_of, item_of, case_found, table_found, list_found, record_found, extension, typed, let_found, variants_found, lambda, table_lambda, branches, branches_over, listed, record_given, let_given, case_given, variants_given, empty_type, parameter_given, found, type_form}
+use Rattle.gft_model.specs.ConcreteTyping.{is_term_first, is_table_expression, passes, Spine, applied_to, at_head, Fits, same, cut, sort, IsType, IsData, an_overload, Stands, Takes, takes_none, takes, Suits, suits_by, Chosen, parameter_of, AreLabels, no_label, label, text_type, type_of_types, type_of_parameters, numbers_to, labels, table_over, function_from, pair_of, parameters_named, oper_named, definition_named, with_names, with_lets, Finds, Checks, FindsAll, none_found, next_found, MembersFind, first_member, MembersCheck, no_member, member, BranchesFind, first_branch, BranchesCheck, no_branch, branch, FieldsHave, no_field, value_given, value_found, typed_given, typed_alone, Defines, no_local, local, typed_local, variable, constructor_name, typed_oper, untyped_oper, alternative_alone, parameter_name, literal, append, glue, number, predef, projection, application, overloaded, selection, branch_over, branch_of, item_of, case_found, table_found, list_found, record_found, extension, typed, let_found, variants_found, lambda, table_lambda, branches, branches_over, listed, record_given, let_given, case_given, variants_given, empty_type, parameter_given, found, type_form}
 use Rattle.gft_model.specs.Items.{Item}
 use Rattle.gft_model.specs.PatternTyping.{Scope}
 use Rattle.gft_model.specs.TypeForms.{form, record_type}
@@ -260,7 +259,7 @@ module _ (items : List Item) where
   form_of (number {n = n} {p = p} a0) = F.Num n p
   form_of (predef {f = f} {x = x} {p = p} a0 a1 a2) = F.Proj f x p
   form_of (projection {r = f} {x = x} {p = p} a0 a1 a2 a3) = F.Proj f x p
-  form_of (application a0 a1 a2) = let x = spine_is_app a0 in F.App x.0 x.1 x.2
+  form_of (application {f = f} {a = a} {p = p} a0 a1 a2 a3) = F.App f a p
   form_of (overloaded k a0 a1 a2 a3 a4) = let x = spine_is_app a0 in F.App x.0 x.1 x.2
   form_of (selection {a = a} {b = b} {p = p} a0 a1 a2 a3 a4) = F.Select a b p
   form_of (branch_over {a = a} {b = b} {p = p} a0 a1 a2 a3 a4 a5) = F.Select a b p
@@ -289,7 +288,7 @@ module _ (items : List Item) where
   form_is (number a0) = a0
   form_is (predef a0 a1 a2) = a0
   form_is (projection a0 a1 a2 a3) = a0
-  form_is (application a0 a1 a2) = (spine_is_app a0).3
+  form_is (application a0 a1 a2 a3) = a0
   form_is (overloaded k a0 a1 a2 a3 a4) = (spine_is_app a0).3
   form_is (selection a0 a1 a2 a3 a4) = a0
   form_is (branch_over a0 a1 a2 a3 a4 a5) = a0
@@ -331,34 +330,41 @@ module _ (items : List Item) where
   no-sort-found : {Γ : Scope} {e : Term} {T : CType} {t : LinTerm} {l : F.Term-F Term} → Finds items Γ e T t → form e ≡ l → is_written_sort l ≡ false → ⊥
   no-sort-found d h k = apart (sym k ∙ ap is_written_sort (sym h) ∙ sort-found d)
 
-  no_ints : {Γ : Scope} {e d f a : Term} {es : List Term} {T S : CType} {t : LinTerm} → Spine e [] f (a ∷ es) → Finds items Γ f S t → IsType items d T → e ≡ d → ⊥
-  no_ints s h t e =
-      let x = spine_is_app s in let i = ints_head t (ap form (sym e) ∙ x.3) in no-sort-found h (spine_ints s x.3 i.1) refl
+  no_ints : {Γ : Scope} {e d f a : Term} {T S : CType} {t : LinTerm} {p : Place} → form e ≡ F.App f a p → Finds items Γ f S t → IsType items d T → e ≡ d → ⊥
+  no_ints k h t e = let i = ints_head t (ap form (sym e) ∙ k) in no-sort-found h i.1 refl
 
-  -- an overload that stands alone is data, and what takes arguments is none
-  bare-data : {F R : CType} {As : List CType} {t u : LinTerm} {us : List LinTerm} → Takes items F t As us R u → As ≡ [] → IsData R
-  bare-data (takes_none d) e = d
-  bare-data (takes a b c) e = absurd (cc)
+  -- what an overload gives is data, and what is applied is none
+  taken-data : {F R : CType} {As : List CType} {t u : LinTerm} {us : List LinTerm} → Takes items F t As us R u → IsData R
+  taken-data (takes_none d) = d
+  taken-data (takes a b c) = taken-data c
 
-  chosen-data : {w : Whole} {k : ℕ} {R : CType} {u : LinTerm} → Suits items w [] [] k R u → IsData R
-  chosen-data (suits_by a0 a1 a2) = bare-data a2 refl
+  suited-data : {w : Whole} {As : List CType} {us : List LinTerm} {k : ℕ} {R : CType} {u : LinTerm} → Suits items w As us k R u → IsData R
+  suited-data (suits_by a0 a1 a2) = taken-data a2
 
-  overload-found : {Γ : Scope} {f : Term} {w : Whole} {p : Place} {T A B : CType} {t : LinTerm} → Finds items Γ f T t → form f ≡ F.Var (WholeName w) p → Stands items w an_overload → out-CType T ≡ C.Fun A B → ⊥
-  overload-found (alternative_alone k a0 a1 a2) h s e = chosen-data a2.suits _ _ e
-  overload-found (constructor_name a0 a1 a2 a3) h s e = cc
-  overload-found (typed_oper k a0 a1 a2) h s e = cc
-  overload-found (untyped_oper k a0 a1 a2) h s e = cc
-  overload-found (parameter_name a0 (parameter_of a1 a2 a3)) h s e = cc
-  overload-found (type_form a0 a1) h s e = apart (ap is_type_form (sym h) ∙ typed-form a1 a0)
-  overload-found d h s e = apart-tags _ _ refl (ap tag (sym h ∙ form_is d))
+  overload-found : {Γ : Scope} {f d h : Term} {es xs : List Term} {w : Whole} {p : Place} {T A B : CType} {t : LinTerm} →
+      Finds items Γ f T t → Spine d es h xs → f ≡ d → form h ≡ F.Var (WholeName w) p → Stands items w an_overload → out-CType T ≡ C.Fun A B → ⊥
+  overload-found (application a0 a1 a2 a3) (applied_to k s) q h o e = overload-found a1 s (cc) h o a2
+  overload-found (application a0 a1 a2 a3) (at_head n) q h o e = n _ _ _ (ap form (sym q) ∙ a0)
+  overload-found (overloaded k a0 a1 a2 a3 a4) s q h o e = suited-data a4.suits _ _ e
+  overload-found (alternative_alone k a0 a1 a2) s q h o e = suited-data a2.suits _ _ e
+  overload-found (constructor_name a0 a1 a2 a3) (applied_to k s) q h o e = cc
+  overload-found (constructor_name a0 a1 a2 a3) (at_head n) q h o e = cc
+  overload-found (typed_oper m a0 a1 a2) (applied_to k s) q h o e = cc
+  overload-found (typed_oper m a0 a1 a2) (at_head n) q h o e = cc
+  overload-found (untyped_oper m a0 a1 a2) (applied_to k s) q h o e = cc
+  overload-found (untyped_oper m a0 a1 a2) (at_head n) q h o e = cc
+  overload-found (parameter_name a0 a1) s q h o e = let k = out-roll-CType C.TypeSort in cc
+  overload-found (type_form a0 a1) s q h o e = let k = out-roll-CType C.TypeSort in cc
+  overload-found d (applied_to k s) q h o e = apart-tags _ _ refl (ap tag (sym k ∙ ap form (sym q) ∙ form_is d))
+  overload-found d (at_head n) q h o e = apart-tags _ _ refl (ap tag (sym h ∙ ap form (sym q) ∙ form_is d))
 
-  takes-arguments : {Γ : Scope} {T R : CType} {t u : LinTerm} {a : Term} {es ds : List Term} → ChecksArguments items Γ T t es R u → es ≡ a ∷ ds → (A : CType) × (B : CType) × (out-CType T ≡ C.Fun A B)
-  takes-arguments no_argument_left e = absurd (cc)
-  takes-arguments (next_argument {A = A} {B = B} h i j) e = (A, B, h)
+  applies-none : {Γ : Scope} {e d f b h a : Term} {es : List Term} {p r : Place} {w : Whole} {S A B : CType} {t : LinTerm} →
+      Spine e [] h (a ∷ es) → form d ≡ F.App f b p → e ≡ d → Finds items Γ f S t → out-CType S ≡ C.Fun A B → form h ≡ F.Var (WholeName w) r → Stands items w an_overload → ⊥
+  applies-none (applied_to k s) l q d f h o = overload-found d s (cc) h o f
 
   abbrev pub check_form : {Γ : Scope} {e : Term} {T : CType} {t : LinTerm} → Checks items Γ e T t → F.Term-F Term
-  check_form (lambda {b = b} {xs = xs} {p = p} a0 a1) = F.Fun xs b p
-  check_form (table_lambda {b = b} {xs = xs} {p = p} a0 a1) = F.TabFun xs b p
+  check_form (lambda {b = b} {x = x} {p = p} a0 a1 a2) = F.Fun (x ∷ []) b p
+  check_form (table_lambda {b = b} {x = x} {p = p} a0 a1 a2) = F.TabFun (x ∷ []) b p
   check_form (branches {cs = cs} {p = p} a0 a1 a2 a3) = F.TableOf None cs p
   check_form (branches_over {D = D} {cs = cs} {p = p} a0 a1 a2 a3 a4) = F.TableOf (Some D) cs p
   check_form (listed {D = D} {es = es} {p = p} a0 a1 a2 a3 a4) = F.TableList D es p
@@ -371,8 +377,8 @@ module _ (items : List Item) where
   check_form (found {e = e} a0 a1 a2) = form e
 
   pub check_form_is : {Γ : Scope} {e : Term} {T : CType} {t : LinTerm} (d : Checks items Γ e T t) → form e ≡ check_form d
-  check_form_is (lambda a0 a1) = a0
-  check_form_is (table_lambda a0 a1) = a0
+  check_form_is (lambda a0 a1 a2) = a0
+  check_form_is (table_lambda a0 a1 a2) = a0
   check_form_is (branches a0 a1 a2 a3) = a0
   check_form_is (branches_over a0 a1 a2 a3 a4) = a0
   check_form_is (listed a0 a1 a2 a3 a4) = a0
@@ -413,7 +419,7 @@ module _ (items : List Item) where
   empty-found (number a0) h = cc
   empty-found (predef a0 a1 a2) h = cc
   empty-found (projection a0 a1 a2 a3) h = cc
-  empty-found (application a0 a1 a2) h = let x = (spine_is_app a0).3 in cc
+  empty-found (application a0 a1 a2 a3) h = cc
   empty-found (overloaded ak a0 a1 a2 a3 a4) h = let x = (spine_is_app a0).3 in cc
   empty-found (selection a0 a1 a2 a3 a4) h = cc
   empty-found (branch_over a0 a1 a2 a3 a4 a5) h = cc
@@ -489,12 +495,12 @@ module _ (items : List Item) where
     find-once (projection a0 a1 a2 a3) (predef b0 b1 b2) g e = absurd (no-sort-found a1 (apart-heads b0 a0 (sym e) b1) refl)
     find-once (projection a0 a1 a2 a3) (type_form b0 b1) g e = let k : false ≡ true = ap is_type_form (sym a0 ∙ ap form e) ∙ typed-form b1 b0 in absurd (apart k)
     find-once (projection a0 a1 a2 a3) d g e = absurd (apart-tags _ _ refl (same-tag a0 e (form_is d)))
-    find-once (application a0 a1 a2) (application b0 b1 b2) g e = let s = spine-once a0 b0 e refl in let i = find-once a1 b1 g s.0 in arguments-once a2 b2 g i.0 i.1 s.1
-    find-once (application a0 a1 a2) (overloaded bk b0 b1 b2 b3 b4) g e = let s = spine-once a0 b0 e refl in let x = takes-arguments a2 refl in absurd (overload-found a1 (ap form s.0 ∙ b1) b2 x.2)
-    find-once (application a0 a1 a2) (type_form b0 b1) g e = absurd (no_ints a0 a1 b1 e)
-    find-once (application a0 a1 a2) d g e = absurd (apart-tags _ _ refl (same-tag (spine_is_app a0).3 e (form_is d)))
+    find-once (application a0 a1 a2 a3) (application b0 b1 b2 b3) g e = let i = find-once a1 b1 g (cc) in let j = check-once a3 b3 g (cc) (cc) in (cc, cc)
+    find-once (application a0 a1 a2 a3) (overloaded bk b0 b1 b2 b3 b4) g e = absurd (applies-none b0 a0 (sym e) a1 a2 b1 b2)
+    find-once (application a0 a1 a2 a3) (type_form b0 b1) g e = absurd (no_ints a0 a1 b1 e)
+    find-once (application a0 a1 a2 a3) d g e = absurd (apart-tags _ _ refl (same-tag a0 e (form_is d)))
     find-once (overloaded ak a0 a1 a2 a3 a4) (overloaded bk b0 b1 b2 b3 b4) g e = let s = spine-once a0 b0 e refl in let i = all-once a3 b3 g s.1 in chosen-once a4 b4 (cc) i.0 i.1
-    find-once (overloaded ak a0 a1 a2 a3 a4) (application b0 b1 b2) g e = let s = spine-once a0 b0 e refl in let x = takes-arguments b2 refl in absurd (overload-found b1 (ap form (sym s.0) ∙ a1) a2 x.2)
+    find-once (overloaded ak a0 a1 a2 a3 a4) (application b0 b1 b2 b3) g e = absurd (applies-none a0 b0 e b1 b2 a1 a2)
     find-once (overloaded ak a0 a1 a2 a3 a4) (type_form b0 b1) g e = absurd (no_ints_var a0 a1 b1 e)
     find-once (overloaded ak a0 a1 a2 a3 a4) d g e = absurd (apart-tags _ _ refl (same-tag (spine_is_app a0).3 e (form_is d)))
     find-once (selection a0 a1 a2 a3 a4) (selection b0 b1 b2 b3 b4) g e = let i = find-once a2 b2 g (cc) in let j = check-once a4 b4 g (cc) (cc) in (cc, cc)
@@ -546,21 +552,21 @@ module _ (items : List Item) where
     find-once (variants_found a0 a1) (type_form b0 b1) g e = let k : false ≡ true = ap is_type_form (sym a0 ∙ ap form e) ∙ typed-form b1 b0 in absurd (apart k)
     find-once (variants_found a0 a1) d g e = absurd (apart-tags _ _ refl (same-tag a0 e (form_is d)))
     find-once (type_form a0 a1) (type_form b0 b1) g e = (refl, refl)
-    find-once (type_form a0 a1) (application b0 b1 b2) g e = absurd (no_ints b0 b1 a1 (sym e))
+    find-once (type_form a0 a1) (application b0 b1 b2 b3) g e = absurd (no_ints b0 b1 a1 (sym e))
     find-once (type_form a0 a1) (overloaded bk b0 b1 b2 b3 b4) g e = absurd (no_ints_var b0 b1 a1 (sym e))
     find-once (type_form a0 a1) (record_found b0 b1) g e = absurd (no_record b0 b1 a0 a1 (sym e))
     find-once (type_form a0 a1) d g e = let k : is_type_form (form_of d) ≡ true = ap is_type_form (sym (form_is d) ∙ ap form (sym e)) ∙ typed-form a1 a0 in absurd (apart k)
 
     pub check-once : {Γ Δ : Scope} {e f : Term} {S T : CType} {t u : LinTerm} → Checks items Γ e S t → Checks items Δ f T u → Γ ≡ Δ → e ≡ f → S ≡ T → t ≡ u
     check-once (found a0 a1 a2) (found b0 b1 b2) g e s = let i = find-once a1 b1 g e in fits-same a2 b2 i.0 s i.1
-    check-once (lambda a0 a1) (lambda b0 b1) g e s = lambda-once a1 b1 g (cc) (cc) s
-    check-once (found a0 a1 a2) (lambda b0 b1) g e s = absurd (passes-clash b0 (sym e) (sym s) refl a0)
-    check-once (lambda a0 a1) (found b0 b1 b2) g e s = absurd (passes-clash a0 e s refl b0)
-    check-once (lambda a0 a1) d g e s = absurd (apart-tags _ _ refl (same-tag a0 e (check_form_is d)))
-    check-once (table_lambda a0 a1) (table_lambda b0 b1) g e s = table-once a1 b1 g (cc) (cc) s
-    check-once (found a0 a1 a2) (table_lambda b0 b1) g e s = absurd (passes-clash b0 (sym e) (sym s) refl a0)
-    check-once (table_lambda a0 a1) (found b0 b1 b2) g e s = absurd (passes-clash a0 e s refl b0)
-    check-once (table_lambda a0 a1) d g e s = absurd (apart-tags _ _ refl (same-tag a0 e (check_form_is d)))
+    check-once (lambda a0 a1 a2) (lambda b0 b1 b2) g e s = let i = check-once a2 b2 (cc) (cc) (cc) in cc
+    check-once (found a0 a1 a2) (lambda b0 b1 b2) g e s = absurd (passes-clash b0 (sym e) (sym s) refl a0)
+    check-once (lambda a0 a1 a2) (found b0 b1 b2) g e s = absurd (passes-clash a0 e s refl b0)
+    check-once (lambda a0 a1 a2) d g e s = absurd (apart-tags _ _ refl (same-tag a0 e (check_form_is d)))
+    check-once (table_lambda a0 a1 a2) (table_lambda b0 b1 b2) g e s = let i = check-once a2 b2 (cc) (cc) (cc) in cc
+    check-once (found a0 a1 a2) (table_lambda b0 b1 b2) g e s = absurd (passes-clash b0 (sym e) (sym s) refl a0)
+    check-once (table_lambda a0 a1 a2) (found b0 b1 b2) g e s = absurd (passes-clash a0 e s refl b0)
+    check-once (table_lambda a0 a1 a2) d g e s = absurd (apart-tags _ _ refl (same-tag a0 e (check_form_is d)))
     check-once (branches a0 a1 a2 a3) (branches b0 b1 b2 b3) g e s = let i = branches-checked a2 b2 g (cc) (cc) (cc) in cc
     check-once (found a0 a1 a2) (branches b0 b1 b2 b3) g e s = absurd (passes-clash b0 (sym e) (sym s) refl a0)
     check-once (branches a0 a1 a2 a3) (found b0 b1 b2) g e s = absurd (passes-clash a0 e s refl b0)
@@ -599,24 +605,6 @@ module _ (items : List Item) where
     check-once (found a0 a1 a2) (parameter_given b0 b1 b2 b3) g e s = let i = find-once a1 b1 g e in absurd (no-fit a2 (ap out-CType i.0 ∙ out-roll-CType C.TypeSort, ap out-CType s ∙ out-roll-CType C.ParamSort))
     check-once (parameter_given a0 a1 a2 a3) (found b0 b1 b2) g e s = let i = find-once a1 b1 g e in absurd (no-fit b2 (ap out-CType (sym i.0) ∙ out-roll-CType C.TypeSort, ap out-CType (sym s) ∙ out-roll-CType C.ParamSort))
     check-once (parameter_given a0 a1 a2 a3) d g e s = absurd (apart-tags _ _ refl (same-tag a0 e (check_form_is d)))
-
-    lambda-once : {Γ Δ : Scope} {xs ys : List Bind} {b c : Term} {S T : CType} {t u : LinTerm} → ChecksLambda items Γ xs b S t → ChecksLambda items Δ ys c T u → Γ ≡ Δ → xs ≡ ys → b ≡ c → S ≡ T → t ≡ u
-    lambda-once (body a) (body b) g f e s = check-once a b g e s
-    lambda-once (body a) (binds b0 b1) g f e s = cc
-    lambda-once (binds a0 a1) (body b) g f e s = cc
-    lambda-once (binds a0 a1) (binds b0 b1) g f e s = let i = lambda-once a1 b1 (cc) (cc) e (cc) in cc
-
-    table-once : {Γ Δ : Scope} {xs ys : List Bind} {b c : Term} {S T : CType} {t u : LinTerm} → ChecksTable items Γ xs b S t → ChecksTable items Δ ys c T u → Γ ≡ Δ → xs ≡ ys → b ≡ c → S ≡ T → t ≡ u
-    table-once (cell a) (cell b) g f e s = check-once a b g e s
-    table-once (cell a) (over b0 b1) g f e s = cc
-    table-once (over a0 a1) (cell b) g f e s = cc
-    table-once (over a0 a1) (over b0 b1) g f e s = let i = table-once a1 b1 (cc) (cc) e (cc) in cc
-
-    arguments-once : {Γ Δ : Scope} {F G R S : CType} {t s u v : LinTerm} {es ds : List Term} → ChecksArguments items Γ F t es R u → ChecksArguments items Δ G s ds S v → Γ ≡ Δ → F ≡ G → t ≡ s → es ≡ ds → (R ≡ S) × (u ≡ v)
-    arguments-once no_argument_left no_argument_left g e f h = (e, f)
-    arguments-once no_argument_left (next_argument b0 b1 b2) g e f h = (cc, cc)
-    arguments-once (next_argument a0 a1 a2) no_argument_left g e f h = (cc, cc)
-    arguments-once (next_argument a0 a1 a2) (next_argument b0 b1 b2) g e f h = let i = check-once a1 b1 g (cc) (cc) in arguments-once a2 b2 g (cc) (cc) (cc)
 
     all-once : {Γ Δ : Scope} {es ds : List Term} {As Bs : List CType} {us vs : List LinTerm} → FindsAll items Γ es As us → FindsAll items Δ ds Bs vs → Γ ≡ Δ → es ≡ ds → (As ≡ Bs) × (us ≡ vs)
     all-once none_found none_found g e = (refl, refl)

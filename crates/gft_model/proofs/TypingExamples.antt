@@ -24,7 +24,7 @@ use Rattle.gft_syntax.specs.declared.term.Sort.TheVariants as Sort
 use Rattle.gft_syntax.specs.declared.term.Term.{Term, roll-Term}
 use Rattle.gft_syntax.specs.declared.term.Term.TheOpen as F
 use Rattle.gft_model.specs.ConcreteTypes.{HasLabels, field_of, fewer_labels, tables, numbers, functions, label, no_label, equal, values_of}
-use Rattle.gft_model.specs.ConcreteTyping.{empty_type, sort, Fits, FieldsHave, typed_given, typed_alone, IsData, IsType, Finds, Checks, Covers, patterns, passes, Takes, takes, takes_none, Suits, suits_by, overloaded, text_type, function_from, next_found, none_found, found, append, literal, number, same, cut, predef, application, applied_to, at_head, next_argument, no_argument_left, record_given, value_given, value_found, no_field, branches, branch, no_branch}
+use Rattle.gft_model.specs.ConcreteTyping.{empty_type, sort, Fits, FieldsHave, typed_given, typed_alone, IsData, IsType, Finds, Checks, Covers, patterns, passes, Takes, takes, takes_none, Suits, suits_by, overloaded, text_type, function_from, next_found, none_found, found, append, literal, number, same, cut, predef, application, applied_to, at_head, record_given, value_given, value_found, no_field, branches, branch, no_branch}
 use Rattle.gft_model.specs.Items.{Item, alternative}
 use Rattle.gft_model.specs.Matching.{match_of, is_matched, parameter}
 use Rattle.std.specs.Map.{lookup}
@@ -219,10 +219,9 @@ module _ (items : List Item) where
 
   pub dp_is_str : Finds items [] (apply (apply dp (roll-Term (F.Num 2 nowhere))) (word (codes "flies"))) str_type
       (made (L.App (made (L.App (predef_term Dp nowhere) (made (L.Cut (made (L.Num 2)) (number_type 2) (number_type greatest))))) (words (codes "flies"))))
-  dp_is_str = application
-      (applied_to (form-roll _) (applied_to (form-roll _) (at_head (no_application _ _ (form-roll _) refl))))
-      (predef (form-roll _) (form-roll _) refl)
-      (next_argument (out-roll-CType _) two_fits (next_argument (out-roll-CType _) (literal_fits (codes "flies")) no_argument_left))
+  dp_is_str = application (form-roll _)
+      (application (form-roll _) (predef (form-roll _) (form-roll _) refl) (out-roll-CType _) two_fits) (out-roll-CType _)
+      (literal_fits (codes "flies"))
 
 -- f = overload {f : Str -> Str ; f : Str -> Str -> Str}
 abbrev str_term : Term

@@ -5,7 +5,6 @@ use Rattle.std.specs.Option.{is_some}
 use Rattle.std.specs.List.{list_all, list_any}
 use Rattle.gft_core.specs.Words.{words_of}
 use Rattle.gft_core.specs.declared.place.Place.{Place}
-use Rattle.gft_syntax.specs.declared.bind.Bind.{Bind}
 use Rattle.gft_syntax.specs.declared.ctype.CType.{CType, out-CType}
 use Rattle.gft_syntax.specs.declared.ctype.CType.TheOpen as CType-F
 use Rattle.gft_syntax.specs.declared.linear.Branches.TheVariants.{Matched, Listed}
@@ -135,8 +134,8 @@ module _ (items : List Item) where
           Finds Γ e predef_type (predef_term r p)
       projection : {Γ e r x p R T fs t : _} → form e ≡ Term-F.Proj r x p → Finds Γ r R t → out-CType R ≡ CType-F.Record fs →
           field_of x fs ≡ Some T → Finds Γ e T (made (Lin-F.Proj t x))
-      application : {Γ e f a es F R t u : _} → Spine e [] f (a ∷ es) → Finds Γ f F t →
-          ChecksArguments Γ F t (a ∷ es) R u → Finds Γ e R u
+      application : {Γ e f a p F A B t u : _} → form e ≡ Term-F.App f a p → Finds Γ f F t → out-CType F ≡ CType-F.Fun A B →
+          Checks Γ a A u → Finds Γ e B (made (Lin-F.App t u))
       overloaded : {Γ e f a es w : _} (k : ℕ) {p As us R u : _} → Spine e [] f (a ∷ es) → form f ≡ Term-F.Var (WholeName w) p →
           Stands items w an_overload → FindsAll Γ (a ∷ es) As us → Chosen w As us k R u → Finds Γ e R u
       selection : {Γ e a b p S P V t u : _} → form e ≡ Term-F.Select a b p → is_table_expression (form a) ≡ false →
@@ -168,8 +167,10 @@ module _ (items : List Item) where
 
     -- the term fits the given type, and means the typed term
     pub data Checks : Scope → Term → CType → LinTerm → Type 0 where
-      lambda : {Γ e b xs p T t : _} → form e ≡ Term-F.Fun xs b p → ChecksLambda Γ xs b T t → Checks Γ e T t
-      table_lambda : {Γ e b xs p T t : _} → form e ≡ Term-F.TabFun xs b p → ChecksTable Γ xs b T t → Checks Γ e T t
+      lambda : {Γ e b x p T A B t : _} → form e ≡ Term-F.Fun (x ∷ []) b p → out-CType T ≡ CType-F.Fun A B →
+          Checks (with_bound x A Γ) b B t → Checks Γ e T (made (Lin-F.Lambda (bound x) t))
+      table_lambda : {Γ e b x p T P V t : _} → form e ≡ Term-F.TabFun (x ∷ []) b p → out-CType T ≡ CType-F.Table P V →
+          Checks (with_bound x P Γ) b V t → Checks Γ e T (made (Lin-F.Table P (Matched ((bound_pattern x, t) ∷ []))))
       branches : {Γ e cs p T P V bs : _} → form e ≡ Term-F.TableOf None cs p → out-CType T ≡ CType-F.Table P V →
           BranchesCheck Γ P cs V bs → Covers P (patterns cs) → Checks Γ e T (made (Lin-F.Table P (Matched bs)))
       branches_over : {Γ e D cs p T P V bs : _} → form e ≡ Term-F.TableOf (Some D) cs p → out-CType T ≡ CType-F.Table P V →
@@ -189,24 +190,6 @@ module _ (items : List Item) where
       parameter_given : {Γ e w c ds p T t : _} → form e ≡ Term-F.Var (WholeName w) p → Finds Γ e sort_type t →
           IsParameter items w T ⊎ IsType items e T → out-CType T ≡ CType-F.Param c ds → Checks Γ e sort_param t
       found : {Γ e S T t u : _} → passes (form e) (out-CType T) ≡ false → Finds Γ e S t → Fits S T t u → Checks Γ e T u
-
-    -- a lambda of several variables is one in another
-    pub data ChecksLambda : Scope → List Bind → Term → CType → LinTerm → Type 0 where
-      body : {Γ b T t : _} → Checks Γ b T t → ChecksLambda Γ [] b T t
-      binds : {Γ x xs b T A B t : _} → out-CType T ≡ CType-F.Fun A B → ChecksLambda (with_bound x A Γ) xs b B t →
-          ChecksLambda Γ (x ∷ xs) b T (made (Lin-F.Lambda (bound x) t))
-
-    -- \\x => e is the table of the one branch x => e
-    pub data ChecksTable : Scope → List Bind → Term → CType → LinTerm → Type 0 where
-      cell : {Γ b T t : _} → Checks Γ b T t → ChecksTable Γ [] b T t
-      over : {Γ x xs b T P V t : _} → out-CType T ≡ CType-F.Table P V → ChecksTable (with_bound x P Γ) xs b V t →
-          ChecksTable Γ (x ∷ xs) b T (made (Lin-F.Table P (Matched ((bound_pattern x, t) ∷ []))))
-
-    -- the arguments of a function, one after the other
-    pub data ChecksArguments : Scope → CType → LinTerm → List Term → CType → LinTerm → Type 0 where
-      no_argument_left : {Γ T t : _} → ChecksArguments Γ T t [] T t
-      next_argument : {Γ F A B R t u v a es : _} → out-CType F ≡ CType-F.Fun A B → Checks Γ a A u →
-          ChecksArguments Γ B (made (Lin-F.App t u)) es R v → ChecksArguments Γ F t (a ∷ es) R v
 
     -- terms with the types that are found for them
     pub data FindsAll : Scope → List Term → List CType → List LinTerm → Type 0 where

@@ -36,7 +36,7 @@ use Rattle.gft_model.specs.Refusals.{Moment, refusal}
 use Rattle.gft_model.specs.Resting.{Rests, answers_to}
 use Rattle.gft_model.specs.TypeForms.{form, str_type, number_type, table_type, functions}
 use Rattle.gft_model.specs.TypeTexts.{type_text, param_text}
-use Rattle.gft_model.specs.TypingSites.{Mode, found, given, as_type, over, Role, data_wanted, finite_wanted, to_fit, selected, applied, a_term, a_pattern, Site, term_mode, value_mode, Binds, FoundFor, HasOverload, IsConstructorOf, StandsIn, judgement_sites}
+use Rattle.gft_model.specs.TypingSites.{Mode, found, given, as_type, over, Role, data_wanted, finite_wanted, to_fit, selected, applied, a_term, a_pattern, Site, term_mode, value_mode, FoundFor, HasOverload, IsConstructorOf, StandsIn, judgement_sites}
 
 -- the first of the labels that are wanted which is not there
 abbrev pub first_absent : List (List ℕ) → List (List ℕ) → Option (List ℕ)
@@ -78,11 +78,10 @@ module _ (flat : Flat) where
     table_lambda_found : {xs b p : _} → form e ≡ T.TabFun xs b p → BreaksEarly e found R.NoType []
     table_found : {cs p : _} → form e ≡ T.TableOf None cs p → BreaksEarly e found R.NoType []
     no_variant_found : {p : _} → form e ≡ T.Variants [] p → BreaksEarly e found R.NoType []
-    lambda_is_no_function : {Γ Δ b m x xs ys p F A : _} → form e ≡ T.Fun xs b p → term_mode m ≡ given F →
-        Binds function_in Γ xs F Δ (x ∷ ys) A → function_in (out-CType A) ≡ None →
-        BreaksEarly e m R.NotFunction (type_text A ∷ [])
-    lambda_is_no_table : {Γ Δ b m x xs ys p F A : _} → form e ≡ T.TabFun xs b p → term_mode m ≡ given F →
-        Binds table_in Γ xs F Δ (x ∷ ys) A → table_in (out-CType A) ≡ None → BreaksEarly e m R.NotTable (type_text A ∷ [])
+    lambda_is_no_function : {m xs b p F : _} → form e ≡ T.Fun xs b p → term_mode m ≡ given F → function_in (out-CType F) ≡ None →
+        BreaksEarly e m R.NotFunction (type_text F ∷ [])
+    lambda_is_no_table : {m xs b p F : _} → form e ≡ T.TabFun xs b p → term_mode m ≡ given F → table_in (out-CType F) ≡ None →
+        BreaksEarly e m R.NotTable (type_text F ∷ [])
     table_is_no_table : {m cs p F : _} → form e ≡ T.TableOf None cs p → term_mode m ≡ given F → table_in (out-CType F) ≡ None →
         BreaksEarly e m R.NotTable (type_text F ∷ [])
 

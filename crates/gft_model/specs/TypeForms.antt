@@ -15,7 +15,7 @@ use Rattle.gft_syntax.specs.declared.linear.Predef.{Predef}
 use Rattle.gft_syntax.specs.declared.linear.Predef.TheVariants.{Take, Drop, Tk, Dp}
 use Rattle.gft_syntax.specs.declared.pattern.Pattern.{Pattern, roll-Pattern}
 use Rattle.gft_syntax.specs.declared.pattern.Pattern.TheOpen as Pattern-F
-use Rattle.gft_syntax.specs.declared.term.Term.{Term, out-Term}
+use Rattle.gft_syntax.specs.declared.term.Term.{Term, out-Term, roll-Term}
 use Rattle.gft_syntax.specs.declared.term.Term.TheOpen as Term-F
 use Rattle.gft_syntax.specs.declared.term.Local.{Local}
 use Rattle.gft_syntax.specs.declared.term.Local.TheVariants.{Value, Label, TypedValue}
@@ -65,9 +65,11 @@ one_by_one (Value xs e) = map (λ x. Value (x ∷ []) e) xs
 one_by_one (Label xs t) = map (λ x. Label (x ∷ []) t) xs
 one_by_one (TypedValue xs t e) = map (λ x. TypedValue (x ∷ []) t e) xs
 
--- the form of a term without other spellings: [C] is a name, [] the literal of no words, a | b is
--- variants {a ; b}, each field has one label, and a tuple is the record of its items
+-- the form of a term without other spellings: a lambda or \\ of several variables is one in another, [C] is a name, []
+-- the literal of no words, a | b is variants {a ; b}, each field has one label, and a tuple is the record of its items
 abbrev pub plain_form : Layer → Layer
+plain_form (Term-F.Fun (x ∷ y ∷ ys) e place) = Term-F.Fun (x ∷ []) (roll-Term (Term-F.Fun (y ∷ ys) e place)) place
+plain_form (Term-F.TabFun (x ∷ y ∷ ys) e place) = Term-F.TabFun (x ∷ []) (roll-Term (Term-F.TabFun (y ∷ ys) e place)) place
 plain_form (Term-F.ListCat (WholeName w) place) = Term-F.Var (WholeName w) place
 plain_form (Term-F.Empty place) = Term-F.Lit [] place
 plain_form (Term-F.Alt a b place) = Term-F.Variants (a ∷ b ∷ []) place

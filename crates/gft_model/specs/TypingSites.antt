@@ -77,7 +77,7 @@ pub data Way : Type 0 where
   defined_by : Term → Way
   after : List (Local Term) → Way → Way
   under : Source → Pattern → Way → Way
-  inside : Sides → List Bind → CType → Way
+  inside : Sides → Bind → CType → Way
 
 -- a term or a pattern
 pub data Node : Type 0 where
@@ -153,8 +153,8 @@ select_sites d a b = site any_role (in_mode found) a ∷ site any_role (by given
 -- the parts of a term in a mode, in the order in which they are typed; a lambda, \\ or table without its type has none
 -- where no type is there for it
 abbrev pub term_sites : Layer → Mode → List Site
-term_sites (T.Fun xs e place) (given F) = site any_role (inside function_in xs F) e ∷ []
-term_sites (T.TabFun xs e place) (given F) = site any_role (inside table_in xs F) e ∷ []
+term_sites (T.Fun (x ∷ []) e place) (given F) = site any_role (inside function_in x F) e ∷ []
+term_sites (T.TabFun (x ∷ []) e place) (given F) = site any_role (inside table_in x F) e ∷ []
 term_sites (T.Arrow xs a b place) m = type_site data_wanted a ∷ type_site any_role b ∷ []
 term_sites (T.TabType a b place) m = type_site any_role a ∷ type_site data_wanted b ∷ []
 term_sites (T.Let ls e place) m = let_sites [] ls m e
@@ -214,12 +214,6 @@ judgement_sites lang x (J.OperTyped ns t d) = type_site any_role t ∷ definitio
 judgement_sites lang x (J.Oper ns xs d) = definition_sites (in_mode found) xs d
 judgement_sites lang x j = []
 
--- variables of a lambda, or of \\, over a type: the scope with them, the variables and the type left
-pub data Binds (sides : Sides) : Scope → List Bind → CType → Scope → List Bind → CType → Type 0 where
-  none_bound : {Γ xs A : _} → Binds sides Γ xs A Γ xs A
-  one_bound : {Γ Δ x xs ys F A B V : _} → sides (out-CType F) ≡ Some (A, B) → Binds sides (with_bound x A Γ) xs B Δ ys V →
-      Binds sides Γ (x ∷ xs) F Δ ys V
-
 module _ (flat : Flat) where
   -- the type that is found for a term
   abbrev pub FoundFor : Term → Scope → CType → Type 0
@@ -258,7 +252,8 @@ module _ (flat : Flat) where
     after_locals : {Γ Δ ls ds w m : _} → Defines (items flat) Γ ls Δ ds → Leads w Δ Δ m → Leads (after ls w) Γ Δ m
     under_pattern : {Γ vars s p w A m : _} → Gives s Γ A → PatternFits A p vars → Leads w Γ Γ m →
         Leads (under s p w) Γ (vars ++ Γ) m
-    in_body : {Γ Δ sides xs F B : _} → Binds sides Γ xs F Δ [] B → Leads (inside sides xs F) Γ Δ (given B)
+    in_body : {Γ x F A B : _} {sides : Sides} → sides (out-CType F) ≡ Some (A, B) →
+        Leads (inside sides x F) Γ (with_bound x A Γ) (given B)
 
   -- a term or pattern at or within one of the sites: its moment, scope, mode and role
   pub data StandsIn (sites : List Site) : Moment → Scope → Node → Mode → Role → Type 0 where
