@@ -1,6 +1,7 @@
 -- Lemmas on the definitions over sources.
 use Rattle.std.proofs.Common.{◌≡◌, ap, sym, ◌∙◌, subst, refl, ℕ, zero, suc, ◌+◌, ◌*◌, List, [], ◌∷◌, ◌++◌, map, length, Some, length-append, arith}
 use Rattle.std.proofs.lemmas.List.{length-map}
+use Rattle.std.proofs.lemmas.List.FromFn.{length-range_with_len}
 use Rattle.std.specs.List.{flat_map}
 use Rattle.gft_syntax.specs.declared.ctype.CType.{CType, roll-CType}
 use Rattle.gft_syntax.specs.declared.ctype.CType.TheOpen as C
@@ -43,8 +44,7 @@ no_alternative opers env = ap outcomes (results-roll opers (Lin-F.Variants []) e
 
 -- how many there are of what a definition lists
 length-upto : (n : ℕ) → length (upto n) ≡ n + 1
-length-upto zero = refl
-length-upto (suc n) = simp length-append (omega (arith, length-upto n))
+length-upto n = length-range_with_len 0 (n + 1)
 
 length-each : {A B : Type 0} (f : A → List B) (n : ℕ) → ((a : A) → length (f a) ≡ n) → (xs : List A) → length (flat_map f xs) ≡ length xs * n
 length-each f n h [] = omega arith

@@ -30,7 +30,7 @@ use Rattle.gft_model.specs.Matching.{match_of, is_matched, parameter}
 use Rattle.std.specs.Map.{lookup}
 use Rattle.gft_model.specs.Matching.{same_whole}
 use Rattle.gft_model.specs.PatternTyping.{pattern_form, no_more, Scope, PatternFits, Constructs, constructs, sequence, variable, literal as text_literal, constructor_with}
-use Rattle.gft_model.specs.TypeForms.{FieldTypes, record_type, form, str_type, number_type, table_type, function_type, predef_term, greatest, made}
+use Rattle.gft_model.specs.TypeForms.{record_type, form, str_type, number_type, table_type, function_type, predef_term, greatest, made}
 use Rattle.gft_model.proofs.Computing.{form-roll, pattern_form-roll, match-roll}
 use Rattle.gft_model.proofs.TypeLaws.{type-once}
 use Rattle.gft_model.proofs.FoundTypes.{find-once, fields-empty, check_form_is, same-tag, apart-tags, record-passes}
@@ -97,14 +97,14 @@ zero_term = roll-Term (F.Num 0 nowhere)
 abbrev n_alone : List (Local Term)
 n_alone = Value (codes "n" ∷ []) zero_term ∷ []
 
-no_s : (U : CType) {fs gs : FieldTypes} → HasLabels fs gs → fs ≡ (codes "n", U) ∷ [] → gs ≡ small_fields → ⊥
+no_s : (U : CType) {fs gs : List (List ℕ × CType)} → HasLabels fs gs → fs ≡ (codes "n", U) ∷ [] → gs ≡ small_fields → ⊥
 no_s U no_label f g = cc
 no_s U (label {fs = fs} {l = l} {S = S} {T = T} e s h) f g =
     let q : (l, T) ≡ (codes "s", str_type) = cc in
     let x : l ≡ codes "s" = ap (λ (p : List ℕ × CType). p.0) q in
     let k : None ≡ Some S = sym (ap (λ (k : List ℕ). field_of k fs) x ∙ ap (field_of (codes "s")) f) ∙ e in cc
 
-abbrev starts_with_n : FieldTypes → Bool
+abbrev starts_with_n : List (List ℕ × CType) → Bool
 starts_with_n [] = false
 starts_with_n (f ∷ fs) = bytes_eq f.0 (codes "n")
 
@@ -172,7 +172,7 @@ module _ (items : List Item) where
       (fewer_labels (out-roll-CType _) (out-roll-CType _) (label refl equal no_label)))
 
   -- {n = 0} does not fit it: s is lacking
-  only_n : {Γ : Scope} {gs fs : FieldTypes} {ls : List (Local Term)} {ts : List (List ℕ × LinTerm)} → FieldsHave items Γ gs ls fs ts → ls ≡ n_alone → (U : CType) × (fs ≡ (codes "n", U) ∷ [])
+  only_n : {Γ : Scope} {gs fs : List (List ℕ × CType)} {ls : List (Local Term)} {ts : List (List ℕ × LinTerm)} → FieldsHave items Γ gs ls fs ts → ls ≡ n_alone → (U : CType) × (fs ≡ (codes "n", U) ∷ [])
   only_n no_field h = absurd (cc)
   only_n (value_given {x = x} {T = T} a b c) h = let k : x ≡ codes "n" = cc in let j = fields-empty items c (cc) in (T, cc)
   only_n (value_found {x = x} {T = T} a b c d) h = let k : x ≡ codes "n" = cc in let j = fields-empty items d (cc) in (T, cc)
@@ -182,7 +182,7 @@ module _ (items : List Item) where
   pub record_lacks_s : {T : CType} {t : LinTerm} → Checks items [] (roll-Term (F.Fields n_alone nowhere)) T t → out-CType T ≡ C.Record small_fields → ⊥
   record_lacks_s {T = T} {t = t} (record_given {ls = ls} {fs = fs} {ts = ts} a b c d) h =
       let k = form-roll (F.Fields n_alone nowhere) in let l : ls ≡ n_alone = cc in let u = only_n c l in
-      not_fitting u.0 (subst (λ (gs : FieldTypes). Fits (record_type gs) T (made (L.Record ts)) t) u.1 d) (out-roll-CType _) h
+      not_fitting u.0 (subst (λ (gs : List (List ℕ × CType)). Fits (record_type gs) T (made (L.Record ts)) t) u.1 d) (out-roll-CType _) h
   record_lacks_s {T = T} (found a b c) h =
       let k : false ≡ true = sym a ∙ ap (λ d. passes d (out-CType T)) (form-roll _) ∙ record-passes n_alone nowhere T refl h in cc
   record_lacks_s (empty_type a) h = let k = out-roll-CType C.TypeSort in cc

@@ -1,6 +1,7 @@
 -- What a language compiles to: its productions, defs and refs over nonterminals by their numbers.
 use Rattle.std.specs.Prelude.{◌≡◌, ◌↔◌, ℕ, suc, ◌+◌, List, [], ◌∷◌, ◌++◌, map, flat_map, length, zip, position, Contains, Option, None, Bool, bytes_eq, if◌then◌else◌, option_map}
-use Rattle.std.specs.Option.{option_map_or}
+use Rattle.std.specs.List.{filter_map}
+use Rattle.std.specs.Option.{option_map_or, option_to_list, unwrap_or}
 use Rattle.gft_pmcfg.specs.declared.concrete.Concrete.{Concrete}
 use Rattle.gft_pmcfg.specs.declared.concrete.Def.{Def}
 use Rattle.gft_pmcfg.specs.declared.concrete.Info.{Info}
@@ -19,10 +20,6 @@ use Rattle.gft_model.specs.Languages.{lin_type}
 use Rattle.gft_model.specs.Productions.{CaseProduction, productions_of, defs_of, refs_of}
 use Rattle.gft_model.specs.Runs.{IsKept}
 use Rattle.gft_model.specs.Values.{all_there, each_same, same_param}
-
--- two cases are the same
-abbrev pub same_case : List Param → List Param → Bool
-same_case v w = each_same (map same_param v) w
 
 module _ (flat : Flat) (lang : List ℕ) where
   -- the cases of a category in order
@@ -45,7 +42,7 @@ module _ (flat : Flat) (lang : List ℕ) where
   abbrev pub nonterminal : ℕ → List Cat → List ℕ → List Param → Option ℕ
   nonterminal n [] C v = None
   nonterminal n (c ∷ cs) C v =
-      if bytes_eq C c.name then option_map (λ k. n + k) (position (same_case v) (cases_in C))
+      if bytes_eq C c.name then option_map (λ k. n + k) (position (each_same (map same_param v)) (cases_in C))
       else nonterminal (n + length (cases_in c.name)) cs C v
 
   -- those of several categories, each in its case
@@ -54,9 +51,9 @@ module _ (flat : Flat) (lang : List ℕ) where
 
   -- a production of the function of number k
   abbrev pub numbered_production : List Cat → ℕ → Signature → CaseProduction → List Prod
-  numbered_production cats k s p = option_map_or
-      (λ ns. option_map_or (λ n. record { fun = k; args = ns; result = n; seqs = p.sequences } ∷ [])
-      (nonterminal 0 cats s.result p.result) []) (nonterminals cats s.arguments p.arguments) []
+  numbered_production cats k s p =
+      flat_map (λ ns. map (λ n. record { fun = k; args = ns; result = n; seqs = p.sequences })
+      (option_to_list (nonterminal 0 cats s.result p.result))) (option_to_list (nonterminals cats s.arguments p.arguments))
 
   -- the productions of the functions from number k on, whether they are kept or not
   abbrev pub productions_from : List Cat → ℕ → List Fun → List Prod
@@ -65,20 +62,16 @@ module _ (flat : Flat) (lang : List ℕ) where
       option_map_or (λ s. flat_map (numbered_production cats k s) (productions_of flat lang f.name))
       (signature_in flat.funs f.name) [] ++ productions_from cats (suc k) fs
 
-  -- a def of a category
-  abbrev pub numbered_def : List Cat → List ℕ → CaseProduction → List Def
-  numbered_def cats C p =
-      option_map_or (λ n. record { result = n; seqs = p.sequences } ∷ []) (nonterminal 0 cats C p.result) []
-
   -- a ref of a category: of one nonterminal, with one sequence
   abbrev pub numbered_ref : List Cat → List ℕ → CaseProduction → List Ref
-  numbered_ref cats C p =
-      option_map_or (λ ns. flat_map (λ n. map (λ seq. record { arg = n; seq = seq }) p.sequences) ns)
-      (nonterminals cats (C ∷ []) p.arguments) []
+  numbered_ref cats C p = flat_map (λ n. map (λ seq. record { arg = n; seq = seq }) p.sequences)
+      (unwrap_or (nonterminals cats (C ∷ []) p.arguments) [])
 
   -- all defs of the listed categories
   abbrev pub defs_in : List Cat → List Def
-  defs_in cats = flat_map (λ c. flat_map (numbered_def cats c.name) (defs_of flat lang c.name)) (listed cats)
+  defs_in cats = flat_map (λ c. filter_map
+      (λ p. option_map (λ n. record { result = n; seqs = p.sequences }) (nonterminal 0 cats c.name p.result))
+      (defs_of flat lang c.name)) (listed cats)
 
   -- all refs of the listed categories
   abbrev pub refs_in : List Cat → List Ref

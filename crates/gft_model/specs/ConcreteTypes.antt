@@ -1,6 +1,6 @@
 -- Concrete types: their values in order, their cells and cases, and which is a subtype of which.
 use Rattle.std.specs.Prelude.{◌≡◌, ℕ, zero, suc, ◌+◌, ◌*◌, List, [], ◌∷◌, ◌++◌, map, Bool, true, false, not, ◌≤◌, Option, Some, None, bytes_eq}
-use Rattle.std.specs.List.{filter, flat_map, list_all}
+use Rattle.std.specs.List.{filter, flat_map, list_all, range_with_len}
 use Rattle.std.specs.Map.{lookup}
 use Rattle.std.specs.Option.{is_some, option_to_list}
 use Rattle.gft_syntax.specs.declared.ctype.CType.{CType, out-CType}
@@ -13,8 +13,7 @@ use Rattle.gft_model.specs.ValueForms.{con_param, number_param, record_param}
 
 -- the numbers from 0 to n
 abbrev pub upto : ℕ → List ℕ
-upto zero = 0 ∷ []
-upto (suc n) = upto n ++ suc n ∷ []
+upto n = range_with_len 0 (n + 1)
 
 -- one of each list, the choice from the first list counting most
 abbrev pub choices : {A : Type 0} → List (List A) → List (List A)

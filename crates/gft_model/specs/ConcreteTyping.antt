@@ -26,7 +26,7 @@ use Rattle.gft_model.specs.ConcreteTypes.{field_of, count_of, values_of, record_
 use Rattle.gft_model.specs.Items.{Item, alternative}
 use Rattle.gft_model.specs.Matching.{parameter, match_of, is_matched}
 use Rattle.gft_model.specs.PatternTyping.{Scope, PatternFits, Constructs}
-use Rattle.gft_model.specs.TypeForms.{FieldTypes, form, str_type, number_type, record_type, table_type, functions, sort_type, sort_param, made, no_value, bound, with_bound, bound_pattern, constructor_term, predef_type, predef_term, predef_named}
+use Rattle.gft_model.specs.TypeForms.{form, str_type, number_type, record_type, table_type, functions, sort_type, sort_param, made, no_value, bound, with_bound, bound_pattern, constructor_term, predef_type, predef_term, predef_named}
 use Rattle.gft_model.specs.Values.{extended}
 pub use Rattle.gft_model.specs.WrittenTypes.{IsData, most_values, IsDomain, for_each, Standing, a_parameter, a_constructor, an_oper, an_overload, nothing, is_constructor, standing_from, At, Stands, IsType, text_type, type_of_types, type_of_parameters, numbers_to, labels, table_over, function_from, pair_of, parameters_named, oper_named, definition_named, IsParameter, parameter_of, AreConstructors, no_constructor, constructor, AreArguments, no_argument, arguments, AreLabels, no_label, label, AreFactors, last_factor, next_factor}
 
@@ -218,7 +218,7 @@ module _ (items : List Item) where
 
     -- fields of data as written: one whose label has a given type is given it, one with a type of its
     -- own is given that, and every other is found
-    pub data FieldsHave : Scope → FieldTypes → List (Local Term) → FieldTypes → List (List ℕ × LinTerm) → Type 0 where
+    pub data FieldsHave : Scope → List (List ℕ × CType) → List (Local Term) → List (List ℕ × CType) → List (List ℕ × LinTerm) → Type 0 where
       no_field : {Γ gs : _} → FieldsHave Γ gs [] [] []
       value_given : {Γ gs fs x e ls ts T t : _} → field_of x gs ≡ Some T → Checks Γ e T t → FieldsHave Γ gs ls fs ts →
           FieldsHave Γ gs (Value (x ∷ []) e ∷ ls) ((x, T) ∷ fs) ((x, t) ∷ ts)

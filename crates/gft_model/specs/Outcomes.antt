@@ -107,10 +107,6 @@ pub record Environment : Type 0 where
 abbrev pub bind_all : Bindings → Environment → Environment
 bind_all bs env = record { arguments = env.arguments; variables = bs ++ env.variables }
 
--- a variable, if one is named
-abbrev pub bind_in : Option (List ℕ) → Value → Environment → Environment
-bind_in x v env = bind_all (map (λ y. (y, v)) (option_to_list x)) env
-
 -- a value that is there
 abbrev pub just : Option Value → Results
 just v = option_map_or (λ u. one (plain u)) v none
@@ -226,7 +222,7 @@ step opers (LinTerm-F.Let xs a b) env =
     with_values (map (λ x. a env) xs) (λ vs. b (bind_all (reverse (zip xs vs)) env))
 step opers (LinTerm-F.Cut t S T) env = and_then (t env) (cut_to S T)
 step opers (LinTerm-F.Oper k) env = opers k
-step opers (LinTerm-F.Lambda x b) env = one (function (λ v. b (bind_in x v env)))
+step opers (LinTerm-F.Lambda x b) env = one (function (λ v. b (bind_all (map (λ y. (y, v)) (option_to_list x)) env)))
 step opers (LinTerm-F.App f a) env =
     and_then (f env) (λ m. elim m [ plain v ↦ none | function g ↦ with_value (a env) g ])
 

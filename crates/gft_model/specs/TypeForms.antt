@@ -1,5 +1,6 @@
 -- Concrete types, terms and typed terms as typing makes them, form by form.
-use Rattle.std.specs.Prelude.{ℕ, List, [], ◌∷◌, map, flat_map, Option, Some, None, bytes_eq, codes}
+use Rattle.std.specs.Prelude.{◌++◌, ℕ, List, [], ◌∷◌, map, flat_map, Option, Some, None, bytes_eq, codes}
+use Rattle.std.specs.Option.{option_to_list}
 use Rattle.std.specs.Map.{keys_of, lookup}
 use Rattle.gft_core.specs.declared.place.Place.{Place}
 use Rattle.gft_syntax.specs.declared.bind.Bind.{Bind}
@@ -21,10 +22,6 @@ use Rattle.gft_syntax.specs.declared.term.Local.{Local}
 use Rattle.gft_syntax.specs.declared.term.Local.TheVariants.{Value, Label, TypedValue}
 use Rattle.gft_model.specs.Matching.{tuple_label, tuple_fields}
 use Rattle.gft_model.specs.Values.{extended}
-
--- labels with their types
-abbrev pub FieldTypes : Type 0
-FieldTypes = List (List ℕ × CType)
 
 -- the type of strings
 abbrev pub str_type : CType
@@ -96,8 +93,7 @@ bound (Nothing place) = None
 
 -- what is bound, before the rest
 abbrev pub with_bound : {A : Type 0} → Bind → A → List (List ℕ × A) → List (List ℕ × A)
-with_bound (Variable x place) a Γ = (x, a) ∷ Γ
-with_bound (Nothing place) a Γ = Γ
+with_bound x a Γ = map (λ y. (y, a)) (option_to_list (bound x)) ++ Γ
 
 -- the pattern that binds it
 abbrev pub bound_pattern : Bind → Pattern

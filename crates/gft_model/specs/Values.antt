@@ -1,5 +1,8 @@
 -- Values: what their parts are, and how they are compared, extended and cut.
 use Rattle.std.specs.Prelude.{ℕ, ◌-◌, List, [], ◌∷◌, ◌++◌, map, take, drop, length, Bool, true, false, ◌&&◌, ◌==◌, nat_lt, Option, Some, None, bytes_eq, if◌then◌else◌, option_map, option_and_then}
+use Rattle.std.specs.Cmp.Lexicographic.{slice_cmp}
+use Rattle.std.specs.Ordering.{nat_cmp}
+use Rattle.std.specs.FinMap.{put}
 use Rattle.std.specs.List.{filter_map, flat_map, zip}
 use Rattle.std.specs.Map.{keys_of, lookup}
 use Rattle.std.specs.Option.{option_map_or}
@@ -81,22 +84,10 @@ same_param = fold-Param (Param → Bool) (λ d v. same_step d (out-Param v))
 abbrev pub entry_at : {A : Type 0} → Param → List (Param × A) → Option A
 entry_at v es = lookup (same_param v) es
 
--- the label of the first comes before that of the second, byte by byte
-abbrev pub label_before : List ℕ → List ℕ → Bool
-label_before xs [] = false
-label_before [] (y ∷ ys) = true
-label_before (x ∷ xs) (y ∷ ys) = if x == y then label_before xs ys else nat_lt x y
-
--- a field put in its order; it takes the place of one of its label
-abbrev pub put_field : {A : Type 0} → List ℕ × A → List (List ℕ × A) → List (List ℕ × A)
-put_field f [] = f ∷ []
-put_field f (g ∷ gs) =
-    if bytes_eq f.0 g.0 then f ∷ gs else if label_before f.0 g.0 then f ∷ g ∷ gs else g ∷ put_field f gs
-
 -- the fields of both in order of their labels, those of the second where a label is in both
 abbrev pub extended : {A : Type 0} → List (List ℕ × A) → List (List ℕ × A) → List (List ℕ × A)
 extended fs [] = fs
-extended fs (g ∷ gs) = extended (put_field g fs) gs
+extended fs (g ∷ gs) = extended (put (slice_cmp nat_cmp) g.0 g.1 fs) gs
 
 -- the first n, what is after them, what is before the last n, the last n
 abbrev pub part : {A : Type 0} → Predef → ℕ → List A → List A

@@ -17,7 +17,7 @@ use Rattle.gft_syntax.specs.declared.term.Term.TheOpen as Term-F
 use Rattle.gft_model.specs.ConcreteTypes.{is_finite, count_of}
 use Rattle.gft_model.specs.Items.{Item, parameter_type, oper, alternative}
 use Rattle.gft_model.specs.Matching.{same_whole, tuple_fields}
-use Rattle.gft_model.specs.TypeForms.{FieldTypes, form, str_type, number_type, record_type, table_type, functions, sort_type, sort_param}
+use Rattle.gft_model.specs.TypeForms.{form, str_type, number_type, record_type, table_type, functions, sort_type, sort_param}
 
 -- a type of data: no function type. Functions stand nowhere else but in opers and what they give
 abbrev pub IsData : CType → Type 0
@@ -107,7 +107,7 @@ module _ (items : List Item) where
           AreArguments (c ∷ cs) (for_each c.binds T ++ Ts)
 
     -- labels with types of data
-    pub data AreLabels : List (Local Term) → FieldTypes → Type 0 where
+    pub data AreLabels : List (Local Term) → List (List ℕ × CType) → Type 0 where
       no_label : AreLabels [] []
       label : {x t ls T fs : _} → IsType t T → IsData T → AreLabels ls fs → AreLabels (Label (x ∷ []) t ∷ ls) ((x, T) ∷ fs)
 
