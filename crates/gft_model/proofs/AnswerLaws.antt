@@ -1,9 +1,9 @@
 -- An answer is determined, where imports and compilation are.
-use Rattle.std.proofs.Common.{◌≡◌, ◌≢◌, refl, sym, ap, ◌∙◌, subst, ℕ, ◌<◌, ◌≤◌, List, [], ◌∷◌, ◌++◌, slice_get, true, false, arith, length, flat_map}
+use Rattle.std.proofs.Common.{◌≡◌, refl, sym, ap, ◌∙◌, subst, ℕ, List, [], ◌∷◌, ◌++◌, slice_get, true, arith, length, flat_map}
 use Rattle.std.specs.Option.{option_map_or}
 use Rattle.std.specs.Fmt.{decimal}
 use Rattle.std.specs.Str.Parse.{digits_value}
-use Rattle.gft_rules.specs.declared.rule.Rule.TheVariants.{NoSuchLanguage, NoSuchCategory, UnknownName, PortableTooLong}
+use Rattle.gft_rules.specs.declared.rule.Rule.TheVariants.{NoSuchLanguage, NoSuchCategory}
 use Rattle.std.specs.Cmp.{eq_by_cmp_equiv}
 use Rattle.std.specs.Cmp.Lexicographic.{nat_list_cmp_total}
 use Rattle.std.specs.Prelude.{map, Option, Some, None, Result, Ok, Err, bytes_eq, if◌then◌else◌, codes, filter, ⊤}
@@ -13,13 +13,13 @@ use Rattle.gft_io.specs.Outside.{Files}
 use Rattle.gft_pmcfg.specs.declared.concrete.Concrete.{Concrete}
 use Rattle.gft_pmcfg.specs.declared.grammar.Grammar.{Grammar}
 use Rattle.gft_rules.specs.declared.refusal.Refusal.{Refusal}
-use Rattle.gft_model.specs.Commands.{Verb, Argument, Item, Given, a_text, Command, option_of, InTurn, EndsIn, portable_ending}
+use Rattle.gft_model.specs.Commands.{Verb, Argument, Item, Given, a_text, Command, option_of, EndsIn, portable_ending}
 use Rattle.gft_model.specs.Refusals.{placeless}
 use Rattle.std.specs.FinMap.{get, insert, get-insert}
 use Rattle.gft_model.specs.AbstractInfo.{judgement_lines}
 use Rattle.gft_pmcfg.specs.declared.signature.Abstract.{Abstract}
 use Rattle.gft_model.specs.PortableFile.{file_bytes}
-use Rattle.gft_model.specs.Replies.{Makes, parsed, completed, too_long, linearized, unsolved, passed, Parses, Completes, Runs, done, next, refused, AreTexts, languages_for, line_of}
+use Rattle.gft_model.specs.Replies.{Makes, parsed, completed, too_long, linearized, unsolved, passed, Parses, Completes, Runs, done, next, refused, AreTexts, languages_for}
 use Rattle.gft_model.specs.Shell.{Held, Answer, Lacks, no_grammar, no_language, no_such_language, no_such_category, LacksFirst, here, later, IsFileOf, Does, PipeSteps, InOrder, Steps, IsAnswer, followed, whole, replying, refusing, ran, grammar_line}
 use Rattle.gft_syntax.specs.declared.flat.Flat.{Flat}
 use Rattle.gft_model.specs.States.{Kept, Languages, Loaded, State, Sources, Gives, IsImported, Joins, IsCompiled, StandsFor, language_of, added, kept_grammar}
@@ -47,7 +47,8 @@ pub order_of_answers : {A : Type 0} {R : Held → A → Answer → Type 0} → (
     → a.failures ≡ 0 → R held x b → b.failures ≡ 0 → a ≡ b) → {held : Held} {xs : List A} {us vs : List Answer}
     → InOrder R held xs us → HasNoFailure us → InOrder R held xs vs → HasNoFailure vs → us ≡ vs
 order_of_answers once InOrder.none e InOrder.none f = refl
-order_of_answers once (InOrder.last {a} d l) e (InOrder.last {a = b} g k) f = let h = once _ _ a b d e.0 g f.0 in ap (λ (z : Answer). z ∷ []) h
+order_of_answers once (InOrder.last {a} d l) e (InOrder.last {a = b} g k) f = let h = once _ _ a b d e.0 g f.0 in ap
+    (λ (z : Answer). z ∷ []) h
 order_of_answers once (InOrder.last {a} d l) e (InOrder.more {a = b} g k gs) f =
     let h = once _ _ a b d e.0 g f.0 in let ends = sym l ∙ ap (λ (z : Answer). z.ends) h ∙ k in cc
 order_of_answers once (InOrder.more {a} d l ds) e (InOrder.last {a = b} g k) f =
@@ -232,7 +233,8 @@ module _ (S : Sources) (determined : IsDetermined S) where
       let same : g ≡ h = cc in absurd (j (ap (λ x. judgement_lines x.abs (bytes_eq name)) (sym same) ∙ i))
   does_once (Does.unknown_name e i) (Does.unknown_name f j) m n = refl
   does_once {held} (Does.writes {file} d l) (Does.writes e k) m n =
-      ap (λ b. replying (record held { files = insert held.files file b }) ((codes "wrote " ++ file ++ codes " " ++ decimal (length b) ++ codes " bytes") ∷ [])) (file_once d e)
+      ap (λ b. replying (record held { files = insert held.files file b })
+          ((codes "wrote " ++ file ++ codes " " ++ decimal (length b) ++ codes " bytes") ∷ [])) (file_once d e)
   does_once (Does.writes d l) (Does.portable_too_long e k) m n = absurd (omega (arith, l, k, ap length (file_once d e)))
   does_once (Does.portable_too_long d l) (Does.writes e k) m n = absurd (omega (arith, l, k, ap length (file_once d e)))
   does_once (Does.portable_too_long d l) (Does.portable_too_long e k) m n = refl
@@ -266,7 +268,8 @@ module _ (S : Sources) (determined : IsDetermined S) where
   pipe_once (PipeSteps.done none d) e (PipeSteps.runs never h i g) f = absurd (no_item d i)
   pipe_once (PipeSteps.runs none h i d) e (PipeSteps.lacking g) f = absurd (none _ g)
   pipe_once (PipeSteps.runs none h i d) e (PipeSteps.done never g) f = absurd (no_item g i)
-  pipe_once {held} (PipeSteps.runs {c} {cs} {g} {item} {result} none h i d) e (PipeSteps.runs {g = k} {item = again} never j l m) f =
+  pipe_once {held} (PipeSteps.runs {c} {cs} {g} {item} {result} none h i d) e
+      (PipeSteps.runs {g = k} {item = again} never j l m) f =
       let states : g ≡ k = cc in
       let items : item ≡ again = cc in
       let moved = subst (λ x. Runs k (c ∷ cs) (x ∷ []) result) items (subst (λ x. Runs x (c ∷ cs) (item ∷ []) result) states d) in
@@ -286,6 +289,7 @@ module _ (S : Sources) (determined : IsDetermined S) where
     steps_once (Steps.read l u d s) e (Steps.not_utf8 m v) f = absurd (v u)
     steps_once (Steps.read {reads} {answers} l u d s) e (Steps.read {reads = others} {answers = again} m v i t) f =
         let same = line_once (chars line) reads others d i in
-        let answered = order_of_answers (λ h r a b x y z w. pipe_once x y z w) (subst (λ rs. InOrder (PipeSteps S) held rs answers) same s)
+        let answered = order_of_answers (λ h r a b x y z w. pipe_once x y z w)
+            (subst (λ rs. InOrder (PipeSteps S) held rs answers) same s)
         (no_failures held answers e) t (no_failures held again f) in
         ap (whole held) answered

@@ -1,8 +1,7 @@
 -- A line is read in one way.
 use Rattle.std.proofs.lemmas.List.Concat.{flat_map-cons}
 use Rattle.std.proofs.Common.{append_assoc, ◌≡◌, ◌≢◌, refl, sym, ap, ◌∙◌, subst, ℕ, List, [], ◌∷◌, ◌++◌, true, false, arith, ⊎_elim, Bool}
-use Rattle.gft_rules.specs.declared.rule.Rule.TheVariants.{BadOption}
-use Rattle.std.specs.Prelude.{encode_utf8_all, Some, None, Ok, Err, Result, Option, ◌==◌, ◌||◌, if◌then◌else◌, flat_map, drop}
+use Rattle.std.specs.Prelude.{Some, None, Ok, Err, Result, Option, ◌==◌, ◌||◌, if◌then◌else◌, flat_map, drop}
 use Rattle.std.specs.List.{AllZip}
 use Rattle.std.specs.Fmt.{decimal}
 use Rattle.std.specs.Option.{option_map}

@@ -58,6 +58,10 @@ pub mod Rising
 pub mod NumberedTerms
 pub mod SoundFile
 pub mod InRange
+pub mod TreeEquality
+pub mod KeptLaws
+pub mod JudgedTypes
+pub mod JudgedGrammars
 pub mod ReadingLaws
 pub mod NoFlaw
 pub mod OneFlaw

@@ -18,7 +18,7 @@ use Rattle.gft_model.specs.Commands as commands
 use Rattle.gft_model.proofs.CommandLaws.{inner, inner_of}
 
 -- equal lists or not
-same_or_not : (a b : List ℕ) → (a ≡ b) ⊎ (a ≢ b)
+pub same_or_not : (a b : List ℕ) → (a ≡ b) ⊎ (a ≢ b)
 same_or_not [] [] = inl refl
 same_or_not [] (y ∷ b) = inr (λ e. cc)
 same_or_not (x ∷ a) [] = inr (λ e. cc)
@@ -51,7 +51,7 @@ quoted_or_not text = by_inner (inner (drop 1 text)) refl where
       n (h ∙ ap quoted (sym found)))) (same_or_not text (quoted v))
 
 -- what holds or does not
-abbrev Decided : Type 0 → Type 0
+abbrev pub Decided : Type 0 → Type 0
 Decided P = P ⊎ (P → ⊥)
 
 abbrev IsFileName : List ℕ → Type 0
@@ -101,7 +101,8 @@ module _ (later : Bool) where
   import_told : (text : List ℕ) → IsWritten text → Told later Import text
   import_told text l = ⊎_elim {C = Told later Import text} (λ d. inl (FileNames (words_in text), files d))
       (λ n. inr (_, other (λ e. cc) (λ a d. n (names_of l d)))) (import_names (words_in text)) where
-        names_of : {text : List ℕ} {a : Argument} → IsWritten text → IsArgument later Import text a → AreFileNames Import (words_in text)
+        names_of : {text : List ℕ} {a : Argument} → IsWritten text → IsArgument later Import text a → AreFileNames Import
+            (words_in text)
         names_of l (files d) = d
         names_of l (bare m) = absurd (l m refl)
 
@@ -128,7 +129,8 @@ module _ (later : Bool) where
   parse_told : (text : List ℕ) → IsWritten text → Told later Parse text
   parse_told text l = ⊎_elim {C = Told later Parse text} (λ q. inl (_, to_parse q.0 q.1))
       (λ n. inr (_, other (λ e. cc) (λ a d. never l n d))) (quoted_or_not text) where
-        never : {text : List ℕ} → IsWritten text → ((w : List ℕ) → text ≢ quoted w) → {a : Argument} → ¬ IsArgument later Parse text a
+        never : {text : List ℕ} → IsWritten text → ((w : List ℕ) → text ≢ quoted w) → {a : Argument}
+            → ¬ IsArgument later Parse text a
         never l n (files d) = elim d [ ]
         never l n (to_parse w e) = n w e
         never l n (bare m) = l m refl
@@ -272,7 +274,8 @@ pipe_read text = let all = in_turn (λ c. command_read c.0 c.1) (in_pipe (parts 
   by_result (Err r) d = (_, pipe_refused d)
   by_result (Ok []) d = absurd (some_commands (parts 124 text) (some_parts 124 text) d)
   by_result (Ok (c ∷ cs)) d =
-      ⊎_elim {C = (r : Result (List Command) Refusal) × ReadsPipe text r} (λ j. (_, pipe d j)) (λ n. (_, bad_pipe d n)) (joined_or_not c cs)
+      ⊎_elim {C = (r : Result (List Command) Refusal) × ReadsPipe text r} (λ j. (_, pipe d j)) (λ n. (_, bad_pipe d n))
+          (joined_or_not c cs)
 
 pipes_read : (texts : List (List ℕ)) → (reads : List (Result (List Command) Refusal)) × AllZip ReadsPipe texts reads
 pipes_read [] = ([], tt)

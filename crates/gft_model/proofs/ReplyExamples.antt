@@ -1,5 +1,5 @@
 -- Worked examples of what `parse` and `complete` answer: in Dead `yes` is the one sentence.
-use Rattle.std.proofs.Common.{◌≡◌, ◌≢◌, refl, sym, ap, ◌∙◌, subst, ℕ, zero, suc, List, [], ◌∷◌, ◌++◌, true, false, arith, rules, inl, inr, ⊎_elim}
+use Rattle.std.proofs.Common.{◌≡◌, ◌≢◌, refl, sym, ap, ◌∙◌, subst, ℕ, zero, suc, List, [], ◌∷◌, true, false, arith, rules, inl, inr, ⊎_elim}
 use Rattle.std.specs.Prelude.{codes, bytes_eq, slice_index_or, Contains, AllPairs, Bool, Option, Some, None, option_map, length, slice_get}
 use Rattle.gft_core.specs.declared.tree.Tree.{Tree, App, Hole, out-Tree, roll-Tree, roll-out-Tree}
 use Rattle.gft_core.specs.declared.tree.Tree.TheOpen as layer
@@ -10,7 +10,7 @@ use Rattle.gft_pmcfg.specs.declared.signature.AType.{AType}
 use Rattle.gft_pmcfg.specs.declared.signature.Fun.{Fun}
 use Rattle.gft_rules.specs.declared.refusal.Refusal.{Refusal}
 use Rattle.gft_rules.specs.declared.rule.Rule.TheVariants.{UnknownFun}
-use Rattle.gft_model.specs.Brackets.{Piece, Mark, grammar, erased, marked}
+use Rattle.gft_model.specs.Brackets.{Piece, Mark, grammar, erased}
 use Rattle.gft_model.specs.Commands.{a_tree, a_line}
 use Rattle.gft_model.specs.Refusals.{placeless}
 use Rattle.gft_model.specs.Cut.{Cutting, cut_of, cut_step}

@@ -1,5 +1,5 @@
 -- Answers of `parse` and `complete` are determined.
-use Rattle.std.proofs.Common.{◌≡◌, refl, sym, ap, ◌∙◌, subst, ℕ, zero, suc, List, [], ◌∷◌, ◌++◌, true, false, Bool, arith, ⊎_elim, inl, inr, ◌↔◌, append_assoc, append-nil, length, IsTrue, map}
+use Rattle.std.proofs.Common.{◌≡◌, refl, sym, ap, ◌∙◌, subst, ℕ, zero, suc, List, [], ◌∷◌, ◌++◌, true, false, Bool, arith, ⊎_elim, inl, inr, ◌↔◌, append_assoc, append-nil, IsTrue, map}
 use Rattle.std.specs.Prelude.{Contains, AllPairs, ◌⊎◌}
 use Rattle.std.specs.Cmp.Lexicographic.{nat_list_cmp_total}
 use Rattle.gft_core.specs.Words.{joined}

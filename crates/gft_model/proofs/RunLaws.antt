@@ -55,7 +55,7 @@ pub string_is : (t : Tree) (w : List ℕ) → IsString t w → t ≡ tree.Str w
 string_is t w h = sym (roll-out-Tree t) ∙ ap roll-Tree h ∙ tree.rolls-Str w
 
 -- what stands at a place stands in the list
-contained : {A : Type 0} (xs : List A) (k : ℕ) (x : A) → slice_get xs k ≡ Some x → Contains xs x
+pub contained : {A : Type 0} (xs : List A) (k : ℕ) (x : A) → slice_get xs k ≡ Some x → Contains xs x
 contained [] k x e = cc
 contained (y ∷ xs) zero x e = let same : y ≡ x = cc in (zero, omega arith, same)
 contained (y ∷ xs) (suc k) x e = let rest = contained xs k x e in (suc rest.0, omega (arith, rest.1), rest.2)
@@ -77,7 +77,7 @@ tree_of-App : (a : Abstract) (c : Concrete) (k : ℕ) (rs : List Run)
     → tree_of a c (App k rs) ≡ tree.App (name_at a c k) (map (tree_of a c) rs)
 tree_of-App a c k rs = by_layers-App (tree_step a c) k rs
 
-holes_of_run-App : (k : ℕ) (rs : List Run) → runs.holes_of (App k rs) ≡ all_of (map runs.holes_of rs)
+pub holes_of_run-App : (k : ℕ) (rs : List Run) → runs.holes_of (App k rs) ≡ all_of (map runs.holes_of rs)
 holes_of_run-App k rs = by_layers-App runs.holes_step k rs
 
 -- the name of a production's function
@@ -141,7 +141,7 @@ mutual
       )
 
 -- a run is what its layer says
-run_application_is : (r : Run) (k : ℕ) (rs : List Run) → IsApplied r k rs → r ≡ App k rs
+pub run_application_is : (r : Run) (k : ℕ) (rs : List Run) → IsApplied r k rs → r ≡ App k rs
 run_application_is r k rs h = sym (roll-out-Run r) ∙ ap roll-Run h ∙ rolls-App k rs
 
 run_number_is : (r : Run) (n : ℕ) → IsNumber r n → r ≡ Int n
@@ -150,7 +150,7 @@ run_number_is r n h = sym (roll-out-Run r) ∙ ap roll-Run h ∙ rolls-Int n
 run_string_is : (r : Run) (w : List ℕ) → IsText r w → r ≡ Str w
 run_string_is r w h = sym (roll-out-Run r) ∙ ap roll-Run h ∙ rolls-Str w
 
-run_hole_is : (r : Run) (n : ℕ) → IsOpen r n → r ≡ Hole n
+pub run_hole_is : (r : Run) (n : ℕ) → IsOpen r n → r ≡ Hole n
 run_hole_is r n h = sym (roll-out-Run r) ∙ ap roll-Run h ∙ rolls-Hole n
 
 mutual

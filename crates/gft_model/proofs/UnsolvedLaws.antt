@@ -9,7 +9,7 @@ use Rattle.std.specs.Cmp.Lexicographic.{slice_cmp, nat_list_cmp_total}
 use Rattle.std.specs.Ordering.{nat_cmp, is_eq, ordering_reverse}
 use Rattle.std.proofs.lemmas.Slice.Eq.{bytes_eq-Decides}
 use Rattle.std.proofs.lemmas.Map.Text.{is_eq-slice_cmp}
-use Rattle.gft_core.specs.declared.tree.Tree.{Tree, out-Tree}
+use Rattle.gft_core.specs.declared.tree.Tree.{Tree}
 use Rattle.gft_core.specs.declared.tree.Tree.TheOpen as layer
 use Rattle.gft_core.specs.declared.tree.Tree.TheOpen.{Tree-F}
 use Rattle.gft_pmcfg.specs.declared.signature.AType.{AType}
@@ -119,7 +119,8 @@ module _ (a : Abstract) (t : Tree) where
   has_once (hole x y f m) (text e) = cc
   has_once {p} {c = c} (hole {q} x y f m) (hole {q = r} z w g n) =
       let k = hole_once p x z in
-      let places : q ≡ r = not_after_once q r (g q (y ∙ ap (λ i. Some (layer.Hole i)) k)) (f r (w ∙ ap (λ i. Some (layer.Hole i)) (sym k))) in
+      let places : q ≡ r = not_after_once q r (g q (y ∙ ap (λ i. Some (layer.Hole i)) k))
+          (f r (w ∙ ap (λ i. Some (layer.Hole i)) (sym k))) in
       must_once (subst (λ v. MustHave a t v c) places m) n
 
   wrong_once : {p : List ℕ} {k : ℕ} {r s : Refusal} → IsWrongAt a t p k r → IsWrongAt a t p k s → r ≡ s

@@ -16,7 +16,7 @@ use Rattle.gft_model.specs.Typing.{HoleTypes, HasType, IsType}
 use Rattle.gft_model.specs.Flaws.{Flaw, HasTypeFlaw}
 use Rattle.gft_model.specs.Fields.{Fits, outcome, got}
 use Rattle.gft_model.specs.FileForms.{file}
-use Rattle.gft_model.specs.PortableFile.{file_bytes, Reads, HasFault, IsInvalid}
+use Rattle.gft_model.specs.PortableFile.{file_bytes, IsGrammar, Reads, HasFault, IsFlawed, IsInvalid}
 use Rattle.gft_model.specs.Skeleton.{HoleCategories, HasSkeletonType}
 use Rattle.gft_model.specs.Brackets.{Piece, erased}
 use Rattle.gft_model.specs.Runs.{Strings, IsRun, IsRef, IsRunFor, components_of, yield_of, holes_of, tree_of}
@@ -159,6 +159,17 @@ FaultOrFields bytes =
 -- bytes that are at no fault are those of fields that fit the table
 abbrev pub BytesHaveFaultOrFields : Type 0
 BytesHaveFaultOrFields = (bytes : List ℕ) → AreBytes bytes → FaultOrFields bytes
+
+-- what fits the table is a grammar, or has a flaw
+abbrev pub GrammarOrFlaw : Type 0
+GrammarOrFlaw = (a : Abstract) (cs : List Concrete) → Fits file (a, cs)
+    → IsGrammar a cs ⊎ ((flaw : Flaw) × (at : ℕ) × IsFlawed a cs flaw at)
+
+-- so bytes are those of a grammar, at a fault, or those of a grammar with a flaw
+abbrev pub BytesAreJudged : Type 0
+BytesAreJudged = (bytes : List ℕ) → AreBytes bytes
+    → ((g : Grammar) × Reads bytes g)
+    ⊎ (((rule : Rule) × (at : ℕ) × HasFault bytes rule at) ⊎ ((flaw : Flaw) × (at : ℕ) × IsInvalid bytes flaw at))
 
 -- bytes have at most one first flaw, and then no fault
 abbrev pub FlawIsDetermined : Type 0

@@ -1,5 +1,5 @@
 //! Laws of the definitions. Each function does nothing; its clause is the law.
-ghost use Rattle.gft_model.specs.Laws.{CutCoversTree, ListedCoversTree, SolutionIsUnique, ErasedIsString, YieldIsDetermined, NonterminalIsDetermined, ValueIsOfRun, RunGivesValue, StringIsOfRun, RunGivesString, TypeIsDetermined, TypedHasSkeletonType, FlawedIsNoType, FieldsAreReadAgain, FieldsAreInRange, GrammarHasNoFault, FaultIsDetermined, FileIsOfOneGrammar, GrammarIsNotInvalid, BytesHaveFaultOrFields, FlawIsDetermined};
+ghost use Rattle.gft_model.specs.Laws.{CutCoversTree, ListedCoversTree, SolutionIsUnique, ErasedIsString, YieldIsDetermined, NonterminalIsDetermined, ValueIsOfRun, RunGivesValue, StringIsOfRun, RunGivesString, TypeIsDetermined, TypedHasSkeletonType, FlawedIsNoType, FieldsAreReadAgain, FieldsAreInRange, GrammarOrFlaw, BytesAreJudged, GrammarHasNoFault, FaultIsDetermined, FileIsOfOneGrammar, GrammarIsNotInvalid, BytesHaveFaultOrFields, FlawIsDetermined};
 
 /// The solution of a pattern is unique: it fixes the numbers of its holes too.
 pub fn solution_is_unique()
@@ -77,6 +77,16 @@ pub fn fields_are_read_again()
 /// Fields that fit the table of the portable file are those of a grammar in range.
 pub fn fields_are_in_range()
     ensures { FieldsAreInRange }
+{}
+
+/// What fits the table of the portable file is a grammar, or it has a flaw.
+pub fn grammar_or_flaw()
+    ensures { GrammarOrFlaw }
+{}
+
+/// Bytes are those of a grammar, or at a fault, or those of a grammar with a flaw.
+pub fn bytes_are_judged()
+    ensures { BytesAreJudged }
 {}
 
 /// The bytes of a grammar are at no fault, and nothing stands behind them.
