@@ -15,7 +15,7 @@ use Rattle.gft_syntax.specs.declared.reference.PlacedName.{PlacedName}
 use Rattle.gft_syntax.specs.declared.term.Term.{Term}
 use Rattle.gft_model.specs.HeaderFaults
 use Rattle.gft_model.specs.Import.{BreaksModule, in_header, twice}
-use Rattle.gft_model.specs.Modules.{declares, own, own_text, module_of}
+use Rattle.gft_model.specs.Modules.{declares, own, own_text, module_of, inherits}
 use Rattle.gft_model.specs.Refusals.{refusal, sooner, later_on, name_moment}
 
 abbrev here : ℕ → Place
@@ -44,11 +44,11 @@ module _ (t e : Term) where
     own (codes "X") 0,
     own (codes "Y") 0,
     (
-      HeaderFaults.inherited_gives {h = Whole (named 14 (codes "X"))} (0, omega arith, refl) refl (declares 0 refl refl (0, omega arith, refl)),
+      inherits {h = Whole (named 14 (codes "X"))} (0, omega arith, refl) refl (declares 0 refl refl (0, omega arith, refl)),
       (J.OperTyped (named 20 (codes "P") ∷ []) t (D.Term e), own_text 0 refl refl, refl),
     ),
     (
-      HeaderFaults.inherited_gives {h = Whole (named 17 (codes "Y"))} (1, omega arith, refl) refl (declares 0 refl refl (0, omega arith, refl)),
+      inherits {h = Whole (named 17 (codes "Y"))} (1, omega arith, refl) refl (declares 0 refl refl (0, omega arith, refl)),
       (J.OperTyped (named 20 (codes "P") ∷ []) t (D.Term e), own_text 0 refl refl, refl),
     ),
     λ q. let wrong : true ≡ false = ap (λ d. bytes_eq (module_of d) (codes "X")) q in cc,
