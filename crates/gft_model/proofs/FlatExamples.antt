@@ -8,12 +8,13 @@ use Rattle.gft_syntax.specs.declared.flat.FlatJudgement.{FlatJudgement}
 use Rattle.gft_syntax.specs.declared.judgement.Definition.TheVariants as D
 use Rattle.gft_syntax.specs.declared.judgement.Judgement.{Judgement}
 use Rattle.gft_syntax.specs.declared.judgement.Judgement.TheVariants as J
+use Rattle.gft_syntax.specs.declared.judgement.Setting.TheVariants as V
 use Rattle.gft_syntax.specs.declared.module.Module.{Module}
 use Rattle.gft_syntax.specs.declared.reference.Whole.{Whole}
 use Rattle.gft_syntax.specs.declared.term.Term.{Term}
 use Rattle.gft_model.specs.Modules.{Is, Has, declares, is_given, inherits, keeps, instantiates, HasNameable, at_home, from_opened, from_named, functor_of, Means, own_name, Declared, own, Writes, own_text, inherited_of, opened_of, judgements_of, declared_names, mentions, main_name}
 use Rattle.gft_model.specs.Resolution.{Names, resolved_judgement}
-use Rattle.gft_model.specs.Flats.{whole_of, alone, part_of, IsConstructor, Part, parameters, opers, RestsOn, itself, through, IsMeaning, AreMeanings, IsEntry, HasOfPart, HasAbstract, HasSomewhere, Precedes, AreListed, IsFlat, categories, functions}
+use Rattle.gft_model.specs.Flats.{whole_of, alone, part_of, IsConstructor, Part, parameters, opers, RestsOn, itself, through, IsMeaning, AreMeanings, IsEntry, HasOfPart, HasAbstract, HasSomewhere, Precedes, AreListed, start_of, IsFlat, categories, functions}
 use Rattle.gft_model.specs.Refusals.{Moment, Before, sooner, later_on}
 use Rattle.gft_model.proofs.FlatLaws.{listed_once}
 use Rattle.gft_model.proofs.ModuleExamples.{resource_of_mk}
@@ -278,3 +279,23 @@ module _ (a b : FlatJudgement) (differ : a ≢ b) where
 
   pub not_in_another_order : ¬ (AreListed (b ∷ a ∷ []) IsMet)
   not_in_another_order h = let same = listed_once listed h in let first : a ≡ b = cc in differ first
+
+-- the start category: the last flag that names a category, else S, else the first in byte order, else Int
+module _ (p : Place) where
+  abbrev flag : List ℕ → Judgement
+  flag C = J.Flag (record { name = codes "startcat"; place = p }) (V.Name C)
+
+  last_flag : start_of (codes "A" ∷ codes "B" ∷ []) (flag (codes "A") ∷ flag (codes "B") ∷ flag (codes "None") ∷ []) ≡ codes "B"
+  last_flag = refl
+
+  flag_of_literals : start_of (codes "S" ∷ []) (flag (codes "String") ∷ []) ≡ codes "String"
+  flag_of_literals = refl
+
+  start_s : start_of (codes "A" ∷ codes "S" ∷ []) (flag (codes "None") ∷ []) ≡ codes "S"
+  start_s = refl
+
+  first_by_name : start_of (codes "C" ∷ codes "AB" ∷ codes "B" ∷ []) [] ≡ codes "AB"
+  first_by_name = refl
+
+  no_category : start_of [] [] ≡ codes "Int"
+  no_category = refl

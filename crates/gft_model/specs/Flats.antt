@@ -1,10 +1,9 @@
 -- The resolved grammar of modules: every judgement that counts, under its whole name, with each name
 -- in it replaced by what it means.
-use Rattle.std.specs.Prelude.{◌≡◌, ℕ, List, [], ◌∷◌, ◌++◌, map, filter, filter_map, find, unwrap_or, Bool, true, not, ◌&&◌, ◌↔◌, bytes_eq, codes, Contains, AllPairs, Option, Some, None, option_map, if◌then◌else◌}
-use Rattle.std.specs.List.{list_any, last_or}
+use Rattle.std.specs.Prelude.{◌≡◌, ℕ, List, [], ◌∷◌, ◌++◌, map, filter, filter_map, find, unwrap_or, true, not, ◌&&◌, ◌↔◌, bytes_eq, codes, Contains, AllPairs, Option, Some, None, option_map, if◌then◌else◌}
+use Rattle.std.specs.List.{list_any, last_or, reduce}
 use Rattle.std.specs.Cmp.Lexicographic.{slice_cmp}
-use Rattle.std.specs.Ordering.{nat_cmp}
-use Rattle.std.specs.declared.cmp.Ordering.TheVariants.{Less, Equal, Greater}
+use Rattle.std.specs.Ordering.{nat_cmp, min_by_ordering}
 use Rattle.gft_syntax.specs.declared.flat.Flat.{Flat}
 use Rattle.gft_syntax.specs.declared.flat.FlatConcrete.{FlatConcrete}
 use Rattle.gft_syntax.specs.declared.flat.FlatJudgement.{FlatJudgement}
@@ -68,25 +67,16 @@ abbrev pub IsConstructor : Judgement → List ℕ → Type 0
 IsConstructor j x =
     (n : PlacedName) × (cs : List Constructor) × (j ≡ J.Param n cs) × Contains (map (λ (c : Constructor). c.name.name) cs) x
 
--- a category, the built-in ones among them
-abbrev pub is_category : List (List ℕ) → List ℕ → Bool
-is_category cats C = list_any (bytes_eq C) (codes "Int" ∷ codes "String" ∷ cats)
-
--- the category that a flag of the start category names
+-- the category that a flag of the start category names, the built-in ones among them
 abbrev pub flag_value : List (List ℕ) → Judgement → Option (List ℕ)
 flag_value cats (J.Flag n (V.Name C)) =
-    if bytes_eq n.name (codes "startcat") && is_category cats C then Some C else None
+    if bytes_eq n.name (codes "startcat") && list_any (bytes_eq C) (codes "Int" ∷ codes "String" ∷ cats) then Some C else None
 flag_value cats j = None
 
--- the first of names in byte order
-abbrev pub first_name : List ℕ → List (List ℕ) → List ℕ
-first_name C [] = C
-first_name C (D ∷ Ds) = first_name (elim (slice_cmp nat_cmp D C) [ Less ↦ D | Equal ↦ C | Greater ↦ C ]) Ds
-
--- the start category where no flag names one: S, else the first by name, else Int
+-- the start category where no flag names one: S, else the first in byte order, else Int
 abbrev pub default_start : List (List ℕ) → List ℕ
-default_start [] = codes "Int"
-default_start (C ∷ Cs) = if list_any (bytes_eq (codes "S")) (C ∷ Cs) then codes "S" else first_name C Cs
+default_start cats = if list_any (bytes_eq (codes "S")) cats then codes "S"
+    else unwrap_or (reduce (λ C D. min_by_ordering (slice_cmp nat_cmp C D) C D) cats) (codes "Int")
 
 -- the start category, by the last flag of the module itself that names one
 abbrev pub start_of : List (List ℕ) → List Judgement → List ℕ
