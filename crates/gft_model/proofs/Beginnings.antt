@@ -4,8 +4,8 @@ use Rattle.gft_core.specs.declared.place.Place.{Place}
 use Rattle.gft_syntax.specs.declared.token.Symbol.{Symbol as Sign}
 use Rattle.gft_syntax.specs.declared.token.Symbol.TheVariants as S
 use Rattle.gft_syntax.specs.declared.token.TokenForm.{TokenForm}
-use Rattle.gft_model.specs.Grammar as G
-use Rattle.gft_model.specs.Grammar.{Tokens, Is, IsReserved, IsNamed, FirstAt, Spells, Part, Meaning, Level, PatternLevel, term, pattern, exp, exp1, exp2, exp3, exp4, exp5, exp6, patt, patt1, patt2, patt3, patt4, local, branch, field, alternative, context, constructor, name, bind, placed_name, category_name, inherited, opened, substitution, listed, semicolons, many, Infix, Tighter}
+use Rattle.gft_model.proofs.GrammarRules as G
+use Rattle.gft_model.proofs.GrammarRules.{Tokens, Is, IsReserved, IsNamed, FirstAt, Spells, Part, Meaning, Level, PatternLevel, term, pattern, exp, exp1, exp2, exp3, exp4, exp5, exp6, patt, patt1, patt2, patt3, patt4, local, branch, field, alternative, context, constructor, name, bind, placed_name, category_name, inherited, opened, substitution, listed, semicolons, many, Infix, Tighter}
 use Rattle.gft_model.proofs.ReadingTokens.{first, quiet, denied}
 use Rattle.gft_model.proofs.FirstTokens.{is_sign, is_key, table_key, case_key, variants_key, let_key, begins_atom, begins_application, begins_operand, begins_term, begins, may_be_empty, begins_at}
 

@@ -17,8 +17,8 @@ use Rattle.gft_syntax.specs.declared.token.Symbol.{Symbol as Sign}
 use Rattle.gft_syntax.specs.declared.token.Symbol.TheVariants as S
 use Rattle.gft_syntax.specs.declared.token.TokenForm.{TokenForm}
 use Rattle.gft_syntax.specs.declared.token.TokenForm.TheVariants.{Reserved, Symbol}
-use Rattle.gft_model.specs.Grammar as G
-use Rattle.gft_model.specs.Grammar.{Tokens, Is, IsNamed, FirstAt, Spells, Part, Meaning, Level, term, pattern, exp, exp1, exp2, exp3, exp4, exp5, exp6, patt, patt1, patt2, patt3, patt4, local, branch, field, alternative, context, constructor, name, bind, placed_name, category_name, inherited, opened, substitution, listed, semicolons, many}
+use Rattle.gft_model.proofs.GrammarRules as G
+use Rattle.gft_model.proofs.GrammarRules.{Tokens, IsNamed, FirstAt, Spells, Part, Meaning, Level, term, pattern, exp, exp1, exp2, exp3, exp4, exp5, patt, patt1, patt2, patt3, patt4, local, branch, field, placed_name, inherited, listed, semicolons, many}
 use Rattle.gft_model.proofs.ReadingTokens.{first, quiet, denied, Gives, now, down, goes, sees, starts, stays, decided, alike}
 use Rattle.gft_model.proofs.FirstTokens.{is_sign, sign_number, is_key, is_closer, table_key, case_key, variants_key, begins_atom, begins_pattern, begins_application, begins_operand, begins, may_be_empty, begins_at, projection_goes_on, application_goes_on, selection_goes_on, glue_goes_on, append_goes_on, term_goes_on, star_goes_on, constructor_goes_on, sequence_goes_on, pattern_goes_on, goes_on, Stops, binding_at, opens_list}
 use Rattle.gft_model.proofs.Descent.{Reader, read, project, apply, select, sequence, alternate, descend, read_more, read_restriction, read_head, read_argument, project_by, read_operand, select_by, read_right, read_tail, operand_first, read_by, read_term, star_or_as, read_constructor, pattern_by}

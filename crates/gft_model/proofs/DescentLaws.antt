@@ -6,8 +6,8 @@ use Rattle.gft_syntax.specs.declared.pattern.Pattern.TheOpen as P
 use Rattle.gft_syntax.specs.declared.reference.Reference.TheVariants.{Written}
 use Rattle.gft_syntax.specs.declared.term.Term.TheOpen as T
 use Rattle.gft_syntax.specs.declared.token.Symbol.TheVariants as S
-use Rattle.gft_model.specs.Grammar as G
-use Rattle.gft_model.specs.Grammar.{Tokens, Is, IsNamed, FirstAt, Spells, Part, Meaning, Level, term, pattern, exp, exp1, exp2, exp3, exp4, exp5, exp6, patt, patt1, patt2, patt3, patt4, local, branch, field, alternative, context, constructor, name, bind, placed_name, category_name, inherited, opened, substitution, listed, semicolons, many}
+use Rattle.gft_model.proofs.GrammarRules as G
+use Rattle.gft_model.proofs.GrammarRules.{Tokens, Is, IsNamed, FirstAt, Spells, Part, Meaning, Level, term, pattern, exp, exp1, exp2, exp3, exp4, exp5, exp6, patt, patt1, patt2, patt3, patt4, local, branch, field, alternative, context, constructor, name, bind, placed_name, category_name, inherited, opened, substitution, listed, semicolons, many}
 use Rattle.gft_model.proofs.ReadingTokens.{first, Gives, gives-once, now, down, goes, passes, sees, names, starts, continues, stays, allowed, decided}
 use Rattle.gft_model.proofs.FirstTokens.{is_sign, is_key, table_key, case_key, variants_key, begins_pattern, projection_goes_on, application_goes_on, term_goes_on, star_goes_on, goes_on, Stops, binds_on, names_ahead, is_binding, no_fields_ahead, opens_list}
 use Rattle.gft_model.proofs.Descent.{read, project, apply, select, sequence, alternate, descend, read_more, read_items, read_many, read_type, read_context, read_head, read_argument, read_table, read_operand, read_locals, read_term, read_constructor}

@@ -6,7 +6,7 @@ use Rattle.gft_syntax.specs.declared.token.Symbol.{Symbol as Sign}
 use Rattle.gft_syntax.specs.declared.token.Symbol.TheVariants as S
 use Rattle.gft_syntax.specs.declared.token.TokenForm.{TokenForm}
 use Rattle.gft_syntax.specs.declared.token.TokenForm.TheVariants.{Identifier, Reserved, Number, Quoted, Symbol}
-use Rattle.gft_model.specs.Grammar.{Tokens, Level, PatternLevel, exp, exp1, exp2, exp3, exp4, exp5, exp6, patt, patt1, patt2, patt3, patt4, Part, term, pattern, local, branch, field, alternative, context, constructor, name, bind, placed_name, category_name, inherited, opened, substitution, listed, semicolons, many}
+use Rattle.gft_model.proofs.GrammarRules.{Tokens, Level, PatternLevel, exp, exp1, exp2, exp3, exp4, exp5, exp6, patt, patt1, patt2, patt3, patt4, Part, term, pattern, local, branch, field, alternative, context, constructor, name, bind, placed_name, category_name, inherited, opened, substitution, listed, semicolons, many}
 use Rattle.gft_model.proofs.ReadingTokens.{quiet, first}
 
 -- the symbols, told apart by numbers

@@ -10,6 +10,8 @@ pub mod FirstTokens
 pub mod Descent
 pub mod Beginnings
 pub mod Lookahead
+pub mod GrammarTable
+pub mod GrammarRules
 pub mod Claims
 pub mod DescentLaws
 pub mod SliceLaws

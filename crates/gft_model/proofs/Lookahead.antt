@@ -7,8 +7,8 @@ use Rattle.gft_syntax.specs.declared.token.Symbol.{Symbol as Sign}
 use Rattle.gft_syntax.specs.declared.token.Symbol.TheVariants as S
 use Rattle.gft_syntax.specs.declared.token.TokenForm.{TokenForm}
 use Rattle.gft_syntax.specs.declared.token.TokenForm.TheVariants.{Symbol}
-use Rattle.gft_model.specs.Grammar as G
-use Rattle.gft_model.specs.Grammar.{Tokens, Is, IsReserved, IsNamed, FirstAt, Spells, Part, Meaning, Level, PatternLevel, term, pattern, exp, exp1, exp2, exp3, exp4, exp5, exp6, patt, patt1, patt2, patt3, patt4, local, branch, field, alternative, context, constructor, name, bind, placed_name, category_name, inherited, opened, substitution, listed, semicolons, many, Infix, Tighter}
+use Rattle.gft_model.proofs.GrammarRules as G
+use Rattle.gft_model.proofs.GrammarRules.{Tokens, Is, IsReserved, IsNamed, FirstAt, Spells, Part, Meaning, Level, PatternLevel, term, pattern, exp, exp1, exp2, exp3, exp4, exp5, exp6, patt, patt1, patt2, patt3, patt4, local, branch, field, alternative, context, constructor, name, bind, placed_name, category_name, inherited, opened, substitution, listed, semicolons, many, Infix, Tighter}
 use Rattle.gft_model.proofs.ReadingTokens.{first}
 use Rattle.gft_model.proofs.FirstTokens.{is_sign, is_name, begins_atom, begins_pattern, begins_term, begins_at, binds_on, names_ahead, is_binding, binding_at, opens_list, no_fields_ahead, branches_at}
 use Rattle.gft_model.proofs.Beginnings.{and-false, begun, excludes, impossible}

@@ -20,7 +20,11 @@ use Rattle.gft_syntax.specs.declared.token.SourceToken.{SourceToken}
 use Rattle.gft_syntax.specs.declared.token.Symbol.TheVariants as S
 use Rattle.gft_syntax.specs.declared.token.TokenForm.{TokenForm}
 use Rattle.gft_syntax.specs.declared.token.TokenForm.TheVariants.{Identifier, Reserved, Number, Symbol}
-use Rattle.gft_model.specs.Grammar.{IsReserved, placed, one, more, none}
+use Rattle.gft_syntax.specs.declared.reference.PlacedName.{PlacedName}
+use Rattle.gft_model.specs.Grammar.{IsReserved, placed, listed, placed_name}
+use Rattle.gft_model.proofs.GrammarRules as Rules
+use Rattle.gft_model.proofs.GrammarRules.{ruled}
+use Rattle.gft_model.proofs.GrammarTable.{tabled}
 use Rattle.gft_model.specs.ModuleGrammar.{SpellsJudgement, SpellsSlice, with_keyword, goes_on, keyword_word, category, function, linearization}
 use Rattle.gft_model.specs.Refusals.{refusal}
 use Rattle.gft_model.specs.Source.{lexeme_at, longest, token, nothing}
@@ -126,7 +130,7 @@ opens = record { tokens = refl; is_brace = refl; is_first = no_brace }
 
 -- the slice before the function is in the grammar, so it is not the first that is not
 abbrev spelled_category : SpellsSlice None category_slice K.Cat (J.Cat (placed (codes "S") (at 19 (Identifier (codes "S")))) [])
-spelled_category = with_keyword {k = K.Cat} refl (category {cs = []} refl none)
+spelled_category = with_keyword {k = K.Cat} refl (category {cs = []} refl (tabled Rules.none))
 
 pub category_is_derivable : SyntaxFaults.IsDerivable (SyntaxFaults.in_body true None) category_slice
 category_is_derivable = SyntaxFaults.a_judgement spelled_category
@@ -136,9 +140,13 @@ has_slice =
     SyntaxFaults.of_body (category_slice ∷ []) ([] ∷ []) opens refl (SyntaxFaults.after_judgement SyntaxFaults.at_first spelled_category)
 
 -- the token a is no function
+no_names : {ns : List PlacedName} {c : SourceToken} {us : List SourceToken} →
+    Rules.Spells (listed S.Comma placed_name) (at 27 (Identifier (codes "a")) ∷ []) ns (c ∷ us) → ⊥
+no_names (Rules.one n) = elim n [ ]
+no_names (Rules.more n c s) = elim n [ ]
+
 no_function : {j : Judgement} → SpellsJudgement K.Fun (at 27 (Identifier (codes "a")) ∷ []) j → ⊥
-no_function (function (one n) d t) = elim n [ ]
-no_function (function (more n c s) d t) = elim n [ ]
+no_function (function d e t) = no_names (ruled d)
 no_function (linearization k a b c d) = elim k [ ]
 
 -- a category is no word

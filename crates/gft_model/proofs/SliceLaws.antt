@@ -20,23 +20,25 @@ use Rattle.gft_syntax.specs.declared.token.TokenForm.TheVariants.{Symbol}
 use Rattle.gft_model.specs.Grammar as G
 use Rattle.gft_model.specs.Grammar.{Tokens, Is, IsReserved, IsNamed, placed, Spells, Part, Meaning, term, exp, alternative, context, constructor, bind, placed_name, category_name, listed, semicolons, many}
 use Rattle.gft_model.specs.ModuleGrammar as M
-use Rattle.gft_model.specs.ModuleGrammar.{SpellsDefinition, SpellsSetting, Linearization, SpellsJudgement, keyword_word, SpellsSlice, SpellsSlices}
+use Rattle.gft_model.specs.ModuleGrammar.{SpellsDefinition, SpellsSetting, SpellsJudgement, keyword_word, SpellsSlice}
 use Rattle.gft_model.proofs.ReadingTokens.{first, quiet}
 use Rattle.gft_model.proofs.FirstTokens.{is_sign, is_name, begins, begins_at, may_be_empty, goes_on, Stops}
 use Rattle.gft_model.proofs.Beginnings.{impossible, or-left, or-right, excludes, begun}
 use Rattle.gft_model.proofs.Claims.{Fits}
 use Rattle.gft_model.proofs.DescentLaws.{one_reading}
+use Rattle.gft_model.proofs.GrammarRules as Rules
+use Rattle.gft_model.proofs.GrammarRules.{ruled}
 
 -- the same tokens spell the same, up to the same rest
 pub same-part : (g : Part) {ts us rest others : Tokens} {a b : Meaning g} → ts ≡ us → Fits g →
     Spells g ts a rest → Stops g rest → Spells g us b others → Stops g others → a ≡ b
 same-part g {ts = ts} {others = others} {b = b} same fits d stop e halt =
-    ap (λ (p : Meaning g × Tokens). p.0) (one_reading g ts fits d stop (subst (λ vs. Spells g vs b others) (sym same) e) halt)
+    ap (λ (p : Meaning g × Tokens). p.0) (one_reading g ts fits (ruled d) stop (ruled (subst (λ vs. Spells g vs b others) (sym same) e)) halt)
 
 pub same-rest : (g : Part) {ts us rest others : Tokens} {a b : Meaning g} → ts ≡ us → Fits g →
     Spells g ts a rest → Stops g rest → Spells g us b others → Stops g others → rest ≡ others
 same-rest g {ts = ts} {others = others} {b = b} same fits d stop e halt =
-    ap (λ (p : Meaning g × Tokens). p.1) (one_reading g ts fits d stop (subst (λ vs. Spells g vs b others) (sym same) e) halt)
+    ap (λ (p : Meaning g × Tokens). p.1) (one_reading g ts fits (ruled d) stop (ruled (subst (λ vs. Spells g vs b others) (sym same) e)) halt)
 
 -- the next token stops a part
 pub at : (g : Part) {c f : TokenForm} → c ≡ f → not (goes_on g f) ≡ true → not (goes_on g c) ≡ true
@@ -51,16 +53,21 @@ parameter-first (Symbol S.Comma) e = impossible e
 parameter-first (Symbol S.Colon) e = impossible e
 parameter-first f e = refl
 
+parameters-by-rules : {us vs : Tokens} {t : SourceToken} {bs : List Bind} → Rules.Spells (many bind) us bs (t ∷ vs) → Is S.Equals t →
+    first (λ f. is_sign S.Comma f || is_sign S.Colon f) us ≡ false
+parameters-by-rules Rules.none h = ap (λ f. is_sign S.Comma f || is_sign S.Colon f) h
+parameters-by-rules {us = us} (Rules.some d e) h =
+    excludes bind (λ f. is_sign S.Comma f || is_sign S.Colon f) parameter-first us (begun d)
+
 parameters-first : {us vs : Tokens} {t : SourceToken} {bs : List Bind} → Spells (many bind) us bs (t ∷ vs) → Is S.Equals t →
     first (λ f. is_sign S.Comma f || is_sign S.Colon f) us ≡ false
-parameters-first G.none h = ap (λ f. is_sign S.Comma f || is_sign S.Colon f) h
-parameters-first {us = us} (G.some d e) h = excludes bind (λ f. is_sign S.Comma f || is_sign S.Colon f) parameter-first us (begun d)
+parameters-first d h = parameters-by-rules (ruled d) h
 
 -- tokens that begin with a token that begins no such part do not spell it
 pub not-begun : {A : Type 0} (g : Part) {ts us rest : Tokens} {t : SourceToken} {a : Meaning g} {f : TokenForm} →
     Spells g ts a rest → ts ≡ t ∷ us → t.form ≡ f → begins g f ≡ false → A
 not-begun g {t = t} d e h b =
-    let i : begins g t.form ≡ true = subst (λ vs. begins_at g vs ≡ true) e (begun d) in impossible (sym (ap (begins g) h ∙ b) ∙ i)
+    let i : begins g t.form ≡ true = subst (λ vs. begins_at g vs ≡ true) e (begun (ruled d)) in impossible (sym (ap (begins g) h ∙ b) ∙ i)
 
 same-number : {k l : ℕ} (t : SourceToken) → G.IsNumber k t → G.IsNumber l t → k ≡ l
 same-number t h i = let j = h.1 in let k = i.1 in cc
@@ -216,15 +223,15 @@ judgement-begun : {k : Keyword} {ts : Tokens} {j : Judgement} → SpellsJudgemen
 judgement-begun (M.category h a) = ap begins_judgement h
 judgement-begun (M.list_category h i j) = ap begins_judgement h
 judgement-begun (M.list_category_of h i j n o p q) = ap begins_judgement h
-judgement-begun (M.function {ts = ts} d h e) = name-begins (listed S.Comma placed_name) ts a-name refl (begun d)
+judgement-begun (M.function {ts = ts} d h e) = name-begins (listed S.Comma placed_name) ts a-name refl (begun (ruled d))
 judgement-begun (M.flag h i a) = ap begins_judgement h
-judgement-begun (M.lincat {ts = ts} d h e) = name-begins (listed S.Comma category_name) ts (λ f e. e) refl (begun d)
-judgement-begun (M.linearization {ts = ts} w d p h e) = name-begins (listed S.Comma category_name) ts (λ f e. e) refl (begun d)
+judgement-begun (M.lincat {ts = ts} d h e) = name-begins (listed S.Comma category_name) ts (λ f e. e) refl (begun (ruled d))
+judgement-begun (M.linearization {ts = ts} w d p h e) = name-begins (listed S.Comma category_name) ts (λ f e. e) refl (begun (ruled d))
 judgement-begun (M.bare_parameter h) = ap begins_judgement h
 judgement-begun (M.parameter_type h i d) = ap begins_judgement h
-judgement-begun (M.declared_oper {ts = ts} d h e) = name-begins (listed S.Comma placed_name) ts a-name refl (begun d)
-judgement-begun (M.typed_oper {ts = ts} d h e i j) = name-begins (listed S.Comma placed_name) ts a-name refl (begun d)
-judgement-begun (M.oper {ts = ts} d p h e) = name-begins (listed S.Comma placed_name) ts a-name refl (begun d)
+judgement-begun (M.declared_oper {ts = ts} d h e) = name-begins (listed S.Comma placed_name) ts a-name refl (begun (ruled d))
+judgement-begun (M.typed_oper {ts = ts} d h e i j) = name-begins (listed S.Comma placed_name) ts a-name refl (begun (ruled d))
+judgement-begun (M.oper {ts = ts} d p h e) = name-begins (listed S.Comma placed_name) ts a-name refl (begun (ruled d))
 
 -- the keyword that a reserved word is
 abbrev keyword_of : Word → Option Keyword

@@ -27,7 +27,10 @@ use Rattle.gft_syntax.specs.declared.token.TokenForm.{TokenForm}
 use Rattle.gft_syntax.specs.declared.token.TokenForm.TheVariants.{Identifier, Reserved, Quoted, Symbol}
 use Rattle.gft_syntax.specs.declared.token.Reserved.TheVariants as W
 use Rattle.gft_syntax.specs.declared.token.Symbol.TheVariants as S
-use Rattle.gft_model.specs.Grammar.{Spells, some, exp3, literal, empty, table_over, fields, sort, strings, constructor_with, whole, instance_of, listed, inherited, term, Tokens, SpellsTerm, SpellsPattern, exp, exp4, patt, placed, one, none, a_placed_name, infix_term, tighter_term, glue, selection, function_type, below_exp, below_exp1, below_exp2, below_exp3, below_exp4, below_exp5, variable, infix_pattern, tighter_pattern, in_sequence, below_patt, below_patt1, below_patt2, below_patt3, named_pattern, text_pattern}
+use Rattle.gft_model.specs.Grammar as F
+use Rattle.gft_model.specs.Grammar.{Spells, SpellsTerm, SpellsPattern, Tokens, exp3, exp, exp4, patt, listed, inherited, term, placed, below_exp, below_exp1, below_exp2, below_exp3, below_exp4, below_exp5, below_patt, below_patt1, below_patt2, below_patt3}
+use Rattle.gft_model.proofs.GrammarRules.{Spells as IsRuled, ruled, some, literal, empty, table_over, fields, sort, strings, constructor_with, whole, instance_of, one, none, a_placed_name, infix_term, tighter_term, glue, selection, function_type, variable, infix_pattern, tighter_pattern, in_sequence, named_pattern, text_pattern}
+use Rattle.gft_model.proofs.GrammarTable.{tabled}
 use Rattle.gft_model.specs.ModuleGrammar.{AtEnd, SpellsJudgement, SpellsRest, incomplete_module, opening_body, typed_oper, by_term, parameter_type, linearization, module_of, a_concrete, functor, functor_with_body, inherited_alone, inherited_before, after_semicolon, SpellsSlice, slices_of, category, function, with_keyword, goes_on, no_slice, empty_slice, slice, closed_body, plain_module, an_abstract, nothing_before, own_body, at_once, SpellsModule, a_module}
 use Rattle.gft_model.proofs.ReadingTokens.{after, past, seen, named, from, then, given}
 use Rattle.gft_model.proofs.Descent.{descend, read}
@@ -51,11 +54,11 @@ abbrev var : ℕ → List ℕ → Term
 var col x = roll-Term (T.Var (Written x) (place col))
 
 -- a name is a term, of each level
-name_at : (col : ℕ) (x : List ℕ) (rest : Tokens) → SpellsTerm exp4 (word col x ∷ rest) (var col x) rest
+name_at : (col : ℕ) (x : List ℕ) (rest : Tokens) → IsRuled (term exp4) (word col x ∷ rest) (var col x) rest
 name_at col x rest =
     tighter_term below_exp4 (tighter_term below_exp5 (variable refl (out-roll-Term (T.Var (Written x) (place col)))))
 
-name_as_exp : (col : ℕ) (x : List ℕ) (rest : Tokens) → SpellsTerm exp (word col x ∷ rest) (var col x) rest
+name_as_exp : (col : ℕ) (x : List ℕ) (rest : Tokens) → IsRuled (term exp) (word col x ∷ rest) (var col x) rest
 name_as_exp col x rest =
     tighter_term below_exp (tighter_term below_exp1 (tighter_term below_exp2 (tighter_term below_exp3 (name_at col x rest))))
 
@@ -63,36 +66,36 @@ name_as_exp col x rest =
 pub sum_of_selection : SpellsTerm exp
     (word 1 (codes "x") ∷ at 3 (Symbol S.Plus) ∷ word 5 (codes "y") ∷ at 7 (Symbol S.Exclamation) ∷ word 9 (codes "z") ∷ [])
     (roll-Term (T.Glue (var 1 (codes "x")) (roll-Term (T.Select (var 5 (codes "y")) (var 9 (codes "z")) (place 5))) (place 1))) []
-sum_of_selection =
-    tighter_term below_exp (tighter_term below_exp1 (infix_term glue (tighter_term below_exp3 (name_at 1 (codes "x") _)) refl
+sum_of_selection = tabled
+    (tighter_term below_exp (tighter_term below_exp1 (infix_term glue (tighter_term below_exp3 (name_at 1 (codes "x") _)) refl
     (tighter_term below_exp2 (infix_term selection (tighter_term below_exp3 (name_at 5 (codes "y") _)) refl (name_at 9 (codes "z") []) refl (out-roll-Term _)))
-    refl (out-roll-Term _)))
+    refl (out-roll-Term _))))
 
 -- x + "y", the pattern of a text that ends in y
 pub ends_in_y : SpellsPattern patt (word 1 (codes "x") ∷ at 3 (Symbol S.Plus) ∷ at 5 (Quoted (codes "y") (codes "y")) ∷ [])
     (roll-Pattern (P.Seq (roll-Pattern (P.Name (Written (codes "x")) (place 1))) (roll-Pattern (P.Text (codes "y") (place 5))) (place 1))) []
-ends_in_y =
-    tighter_pattern below_patt (infix_pattern in_sequence
+ends_in_y = tabled
+    (tighter_pattern below_patt (infix_pattern in_sequence
     (tighter_pattern below_patt1 (tighter_pattern below_patt2 (tighter_pattern below_patt3 (named_pattern refl (out-roll-Pattern _)))))
     refl (tighter_pattern below_patt2 (tighter_pattern below_patt3 (text_pattern (codes "y", refl) (out-roll-Pattern _))))
-    refl (out-roll-Pattern _))
+    refl (out-roll-Pattern _)))
 
 -- C x "a", a constructor with its arguments
 pub constructor_pattern : SpellsPattern patt (word 1 (codes "C") ∷ word 3 (codes "x") ∷ at 5 (Quoted (codes "a") (codes "a")) ∷ [])
     (roll-Pattern (P.Con None (Written (codes "C")) (roll-Pattern (P.Name (Written (codes "x")) (place 3)) ∷ roll-Pattern (P.Text (codes "a") (place 5)) ∷ []) (place 1))) []
-constructor_pattern =
-    tighter_pattern below_patt (tighter_pattern below_patt1 (constructor_with refl
-    (some (named_pattern refl (out-roll-Pattern _)) (some (text_pattern (codes "a", refl) (out-roll-Pattern _)) none)) (out-roll-Pattern _)))
+constructor_pattern = tabled
+    (tighter_pattern below_patt (tighter_pattern below_patt1 (constructor_with refl
+    (some (named_pattern refl (out-roll-Pattern _)) (some (text_pattern (codes "a", refl) (out-roll-Pattern _)) none)) (out-roll-Pattern _))))
 
 -- no pattern begins with a minus
 pub minus_is_no_pattern : (ts : Tokens) (p : Pattern) → ¬ (SpellsPattern patt (at 1 (Symbol S.Minus) ∷ ts) p [])
-minus_is_no_pattern ts p d = impossible (begun d)
+minus_is_no_pattern ts p d = impossible (begun (ruled d))
 
 -- table {} {} is a table over {}, with no branch
 pub table_over_nothing : SpellsTerm exp3
     (at 1 (Reserved W.Table) ∷ at 7 (Symbol S.LeftBrace) ∷ at 8 (Symbol S.RightBrace) ∷ at 10 (Symbol S.LeftBrace) ∷ at 11 (Symbol S.RightBrace) ∷ [])
     (roll-Term (T.TableOf (Some (roll-Term (T.Fields [] (place 7)))) [] (place 1))) []
-table_over_nothing = table_over refl (fields refl empty refl refl (out-roll-Term _)) refl empty refl (out-roll-Term _)
+table_over_nothing = tabled (table_over refl (fields refl empty refl refl (out-roll-Term _)) refl empty refl (out-roll-Term _))
 
 -- abstract Hello = {cat S ; X ; fun Greet : X -> S ;}
 abbrev cat_s : Tokens
@@ -141,10 +144,10 @@ pub hello_is_spelled : SpellsModule hello hello_module
 hello_is_spelled =
     a_module (plain_module an_abstract refl refl) refl
     (own_body nothing_before (closed_body {ts = hello_body} refl hello_slices
-    (slice (with_keyword refl (category refl none))
-    (slice (goes_on (category refl none))
-    (slice (with_keyword refl (function (one (a_placed_name refl)) refl
-    (infix_term function_type (name_at 43 (codes "X") _) refl (name_as_exp 48 (codes "S") []) refl (out-roll-Term _))))
+    (slice (with_keyword refl (category refl (tabled none)))
+    (slice (goes_on (category refl (tabled none)))
+    (slice (with_keyword refl (function (tabled (one (a_placed_name refl))) refl
+    (tabled (infix_term function_type (name_at 43 (codes "X") _) refl (name_as_exp 48 (codes "S") []) refl (out-roll-Term _)))))
     (empty_slice no_slice)))))) at_once
 
 -- oper mk : Str = "two"
@@ -154,12 +157,12 @@ str_at col = roll-Term (T.Sort Sort-V.Str (place col))
 abbrev two_at : ℕ → Term
 two_at col = roll-Term (T.Lit (codes "two") (place col))
 
-str_as_exp : (col : ℕ) (rest : Tokens) → SpellsTerm exp (at col (Reserved W.Str) ∷ rest) (str_at col) rest
+str_as_exp : (col : ℕ) (rest : Tokens) → IsRuled (term exp) (at col (Reserved W.Str) ∷ rest) (str_at col) rest
 str_as_exp col rest =
     tighter_term below_exp (tighter_term below_exp1 (tighter_term below_exp2 (tighter_term below_exp3 (tighter_term below_exp4
     (tighter_term below_exp5 (sort strings refl (out-roll-Term (T.Sort Sort-V.Str (place col)))))))))
 
-two_as_exp : (col : ℕ) (rest : Tokens) → SpellsTerm exp (at col (Quoted (codes "two") (codes "two")) ∷ rest) (two_at col) rest
+two_as_exp : (col : ℕ) (rest : Tokens) → IsRuled (term exp) (at col (Quoted (codes "two") (codes "two")) ∷ rest) (two_at col) rest
 two_as_exp col rest =
     tighter_term below_exp (tighter_term below_exp1 (tighter_term below_exp2 (tighter_term below_exp3 (tighter_term below_exp4
     (tighter_term below_exp5 (literal (codes "two", refl) (out-roll-Term (T.Lit (codes "two") (place col)))))))))
@@ -167,7 +170,8 @@ two_as_exp col rest =
 pub oper_of_two : SpellsJudgement K.Oper
     (word 21 (codes "mk") ∷ at 24 (Symbol S.Colon) ∷ at 26 (Reserved W.Str) ∷ at 30 (Symbol S.Equals) ∷ at 32 (Quoted (codes "two") (codes "two")) ∷ [])
     (J.OperTyped (placed (codes "mk") (word 21 (codes "mk")) ∷ []) (str_at 26) (D.Term (two_at 32)))
-oper_of_two = typed_oper (one (a_placed_name refl)) refl (str_as_exp 26 _) refl (by_term (two_as_exp 32 []))
+oper_of_two =
+    typed_oper (tabled (one (a_placed_name refl))) refl (tabled (str_as_exp 26 _)) refl (by_term (tabled (two_as_exp 32 [])))
 
 -- param declares one name: param P, Q is no judgement
 pub two_parameters : (j : Judgement) → ¬ (SpellsJudgement K.Param (word 7 (codes "P") ∷ at 8 (Symbol S.Comma) ∷ word 10 (codes "Q") ∷ []) j)
@@ -186,14 +190,14 @@ pub functor_is_spelled : SpellsModule
     })
 functor_is_spelled =
     a_module (module_of a_concrete refl refl refl refl) refl
-    (functor nothing_before (whole refl) refl (one (instance_of refl refl refl refl refl))) (after_semicolon refl)
+    (functor nothing_before (tabled (whole refl)) refl (tabled (one (instance_of refl refl refl refl refl)))) (after_semicolon refl)
 
 -- abstract A = B {} is no module: before its body an inherited module has **
 abbrev no_stars : Tokens
 no_stars = word 14 (codes "B") ∷ at 16 (Symbol S.LeftBrace) ∷ at 17 (Symbol S.RightBrace) ∷ []
 
 inherits_b : Spells (listed S.Comma inherited) no_stars (Whole (placed (codes "B") (word 14 (codes "B"))) ∷ []) (at 16 (Symbol S.LeftBrace) ∷ at 17 (Symbol S.RightBrace) ∷ [])
-inherits_b = one (whole refl)
+inherits_b = tabled (one (whole refl))
 
 next_is : {rest : Tokens} {s : SourceToken} {hs : List Inherited} {f : TokenForm} →
     Spells (listed S.Comma inherited) no_stars hs (s ∷ rest) → s.form ≡ f → not (continues (listed S.Comma inherited) f) ≡ true → f ≡ Symbol S.LeftBrace
@@ -206,9 +210,9 @@ no_rest r end (own_body nothing_before (opening_body h d i j k f)) e = cc
 no_rest r end (own_body (inherited_before d h) b) e = let wrong = next_is d h refl in cc
 no_rest r end (inherited_alone d) e =
     not-end e (same-rest (listed S.Comma inherited) refl (tt, refl) d (ends (listed S.Comma inherited) e refl) inherits_b refl) refl refl
-no_rest r end (functor nothing_before d h f) e = let wrong = next_is (one d) h refl in cc
+no_rest r end (functor nothing_before d h f) e = let wrong = next_is (F.one d) h refl in cc
 no_rest r end (functor (inherited_before d h) f i g) e = let wrong = next_is d h refl in cc
-no_rest r end (functor_with_body nothing_before d h f i b) e = let wrong = next_is (one d) h refl in cc
+no_rest r end (functor_with_body nothing_before d h f i b) e = let wrong = next_is (F.one d) h refl in cc
 no_rest r end (functor_with_body (inherited_before d h) f i g j b) e = let wrong = next_is d h refl in cc
 
 pub no_module : (m : Module) → ¬ (SpellsModule (at 1 (Reserved W.Abstract) ∷ word 10 (codes "A") ∷ at 12 (Symbol S.Equals) ∷ no_stars) m)
@@ -264,7 +268,7 @@ unread n = refl
 
 pub no_negated_pattern : (e : Term) → ¬ (SpellsTerm exp negated e [])
 no_negated_pattern e d =
-    let g = reads (term exp) d (complete d) tt refl in
+    let g = reads (term exp) (ruled d) (complete (ruled d)) tt refl in
     let wrong : ◌≡◌ {A = Option (Term × Tokens)} None (Some (e, [])) = sym (unread g.bound) ∙ g.value (ten (ten g.bound)) (omega arith) in cc
 
 -- the first slice has a keyword

@@ -10,8 +10,8 @@ use Rattle.gft_syntax.specs.declared.term.Term.TheOpen as T
 use Rattle.gft_syntax.specs.declared.token.SourceToken.{SourceToken}
 use Rattle.gft_syntax.specs.declared.token.Symbol.{Symbol as Sign}
 use Rattle.gft_syntax.specs.declared.token.Symbol.TheVariants as S
-use Rattle.gft_model.specs.Grammar as G
-use Rattle.gft_model.specs.Grammar.{Tokens, Is, IsNamed, FirstAt, Spells, Part, Meaning, Level, PatternLevel, term, pattern, patt, patt1, exp3, exp4, exp5, Infix, InfixPattern, TermForm, PatternForm}
+use Rattle.gft_model.proofs.GrammarRules as G
+use Rattle.gft_model.proofs.GrammarRules.{Tokens, Is, IsNamed, FirstAt, Spells, Part, Meaning, Level, PatternLevel, term, pattern, patt, patt1, exp3, exp4, exp5, Infix, InfixPattern, TermForm, PatternForm}
 use Rattle.gft_model.proofs.Claims.{one_place}
 
 -- a term with one step more, from the place of its first token on

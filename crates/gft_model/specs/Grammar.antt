@@ -1,6 +1,6 @@
--- The grammar of terms, of patterns and of what judgements and headers are made of: which tokens spell
--- which, up to which rest. A line of the tables of the language is a constructor here, named after its form.
-use Rattle.std.specs.Prelude.{◌≡◌, ℕ, List, [], ◌∷◌, flat_map, Bool, true, not, ◌&&◌, ◌||◌, bytes_eq, Option, Some, None}
+-- The grammar of terms, of patterns and of what judgements and headers are made of: the forms of the language in a
+-- table, and which tokens spell which, up to which rest.
+use Rattle.std.specs.Prelude.{◌≡◌, ℕ, List, [], ◌∷◌, ◌++◌, flat_map, Bool, true, not, ◌&&◌, ◌||◌, bytes_eq, Option, Some, None}
 use Rattle.std.specs.List.{list_any, list_all}
 use Rattle.gft_core.specs.declared.place.Place.{Place}
 use Rattle.gft_syntax.specs.declared.bind.Bind.{Bind}
@@ -89,6 +89,22 @@ pub data Level : Type 0 where
 pub data PatternLevel : Type 0 where
   patt patt1 patt2 patt3 patt4 : PatternLevel
 
+-- the next tighter level, whose forms are forms of the looser one too
+pub data Tighter : Level → Level → Type 0 where
+  below_exp : Tighter exp exp1
+  below_exp1 : Tighter exp1 exp2
+  below_exp2 : Tighter exp2 exp3
+  below_exp3 : Tighter exp3 exp4
+  below_exp4 : Tighter exp4 exp5
+  below_exp5 : Tighter exp5 exp6
+
+-- the same of patterns
+pub data TighterPattern : PatternLevel → PatternLevel → Type 0 where
+  below_patt : TighterPattern patt patt1
+  below_patt1 : TighterPattern patt1 patt2
+  below_patt2 : TighterPattern patt2 patt3
+  below_patt3 : TighterPattern patt3 patt4
+
 -- the parts of the grammar; of a part there may be one or more with a symbol between, any number with
 -- semicolons between and one allowed last, and any number one after the other
 pub data Part : Type 0 where
@@ -120,199 +136,170 @@ Meaning (listed s g) = List (Meaning g)
 Meaning (semicolons g) = List (Meaning g)
 Meaning (many g) = List (Meaning g)
 
--- a form of two terms at a place
-abbrev pub TermForm : Type 0
-TermForm = Term → Term → Place → T.Term-F Term
+-- the layer of a part: that of a term or of a pattern, or all of it
+abbrev pub Layer : Part → Type 0
+Layer (term l) = T.Term-F Term
+Layer (pattern l) = P.Pattern-F Pattern
+Layer g = Meaning g
 
--- a form of two patterns at a place
-abbrev pub PatternForm : Type 0
-PatternForm = Pattern → Pattern → Place → P.Pattern-F Pattern
+abbrev pub layer : (g : Part) → Meaning g → Layer g
+layer (term l) e = out-Term e
+layer (pattern l) p = out-Pattern p
+layer g a = a
 
--- the forms with a symbol between two terms: the level of the form, of its left part, the symbol, and the
--- level of its right part
-pub data Infix : Level → Level → Sign → Level → TermForm → Type 0 where
-  alternatives : Infix exp exp1 S.Bar exp T.Alt
-  table_type : Infix exp exp3 S.DoubleArrow exp T.TabType
-  function_type : Infix exp exp4 S.Arrow exp (T.Arrow [])
-  append : Infix exp1 exp2 S.DoublePlus exp1 T.Concat
-  glue : Infix exp2 exp3 S.Plus exp2 T.Glue
-  selection : Infix exp3 exp3 S.Exclamation exp4 T.Select
-  extension : Infix exp3 exp3 S.DoubleStar exp4 T.Extend
-  pair : Infix exp3 exp3 S.Star exp4 T.Pair
+-- a piece of a form: a symbol, a reserved word, a name, a number, a text in quotes, a part, or one that passes a test
+pub data Piece : Type 0 where
+  symbol : Sign → Piece
+  word : Word → Piece
+  identifier number text : Piece
+  part : Part → Piece
+  part_where : (g : Part) → (Meaning g → Bool) → Piece
 
--- the same of patterns
-pub data InfixPattern : PatternLevel → PatternLevel → Sign → PatternLevel → PatternForm → Type 0 where
-  either : InfixPattern patt patt S.Bar patt1 P.Or
-  in_sequence : InfixPattern patt1 patt1 S.Plus patt2 P.Seq
+-- locals with = alone
+abbrev pub definitions : Piece
+definitions = part_where (semicolons local) (list_all is_value)
 
--- the next tighter level, whose forms are forms of the looser one too
-pub data Tighter : Level → Level → Type 0 where
-  below_exp : Tighter exp exp1
-  below_exp1 : Tighter exp1 exp2
-  below_exp2 : Tighter exp2 exp3
-  below_exp3 : Tighter exp3 exp4
-  below_exp4 : Tighter exp4 exp5
-  below_exp5 : Tighter exp5 exp6
+-- a piece in braces, and in brackets
+abbrev pub in_braces : Piece → List Piece
+in_braces p = symbol S.LeftBrace ∷ p ∷ symbol S.RightBrace ∷ []
 
--- the same of patterns
-pub data TighterPattern : PatternLevel → PatternLevel → Type 0 where
-  below_patt : TighterPattern patt patt1
-  below_patt1 : TighterPattern patt1 patt2
-  below_patt2 : TighterPattern patt2 patt3
-  below_patt3 : TighterPattern patt3 patt4
+abbrev pub in_brackets : Piece → List Piece
+in_brackets p = symbol S.LeftBracket ∷ p ∷ symbol S.RightBracket ∷ []
 
--- lambdas: how they begin, and what stands before the body
-pub data Lambda : Sign → Sign → (List Bind → Term → Place → T.Term-F Term) → Type 0 where
-  of_function : Lambda S.Backslash S.Arrow T.Fun
-  of_table : Lambda S.DoubleBackslash S.DoubleArrow T.TabFun
+-- a form is made of its parts in their order and of the place of its first token
+abbrev pub Maker : Part → List Piece → Type 0
+Maker g [] = Place → Layer g
+Maker g (symbol s ∷ ps) = Maker g ps
+Maker g (word w ∷ ps) = Maker g ps
+Maker g (part h ∷ ps) = Meaning h → Maker g ps
+Maker g (identifier ∷ ps) = List ℕ → Maker g ps
+Maker g (number ∷ ps) = ℕ → Maker g ps
+Maker g (text ∷ ps) = List ℕ → Maker g ps
+Maker g (part_where h test ∷ ps) = Meaning h → Maker g ps
 
--- the words that are sorts
-pub data SortWord : Word → Sort → Type 0 where
-  strings : SortWord W.Str Sort-V.Str
-  types : SortWord W.TypeWord Sort-V.TypeSort
-  parameter_types : SortWord W.ParamTypeWord Sort-V.ParamSort
-  numbers : SortWord W.Ints Sort-V.Ints
-  predefined : SortWord W.Predef Sort-V.Predef
+-- the forms of each part: their pieces, and what they are
+pub data Form : (g : Part) (ps : List Piece) → Maker g ps → Type 0 where
+  alternatives : Form (term exp) (part (term exp1) ∷ symbol S.Bar ∷ part (term exp) ∷ []) T.Alt
+  table_type : Form (term exp) (part (term exp3) ∷ symbol S.DoubleArrow ∷ part (term exp) ∷ []) T.TabType
+  function_type : Form (term exp) (part (term exp4) ∷ symbol S.Arrow ∷ part (term exp) ∷ []) (T.Arrow [])
+  function_type_of : Form (term exp) (symbol S.LeftParenthesis ∷ part (listed S.Comma bind) ∷ symbol S.Colon ∷ part (term exp)
+      ∷ symbol S.RightParenthesis ∷ symbol S.Arrow ∷ part (term exp) ∷ []) T.Arrow
+  function : Form (term exp) (symbol S.Backslash ∷ part (listed S.Comma bind) ∷ symbol S.Arrow ∷ part (term exp) ∷ []) T.Fun
+  table_function : Form (term exp) (symbol S.DoubleBackslash ∷ part (listed S.Comma bind) ∷ symbol S.DoubleArrow
+      ∷ part (term exp) ∷ []) T.TabFun
+  let_in : Form (term exp) (word W.Let ∷ definitions ∷ word W.InWord ∷ part (term exp) ∷ []) T.Let
+  let_braces : Form (term exp) (word W.Let ∷ in_braces definitions ++ word W.InWord ∷ part (term exp) ∷ []) T.Let
+  where_locals : Form (term exp) (part (term exp3) ∷ word W.Where ∷ in_braces definitions) (λ e ls. T.Let ls e)
+  append : Form (term exp1) (part (term exp2) ∷ symbol S.DoublePlus ∷ part (term exp1) ∷ []) T.Concat
+  glue : Form (term exp2) (part (term exp3) ∷ symbol S.Plus ∷ part (term exp2) ∷ []) T.Glue
+  selection : Form (term exp3) (part (term exp3) ∷ symbol S.Exclamation ∷ part (term exp4) ∷ []) T.Select
+  extension : Form (term exp3) (part (term exp3) ∷ symbol S.DoubleStar ∷ part (term exp4) ∷ []) T.Extend
+  pair : Form (term exp3) (part (term exp3) ∷ symbol S.Star ∷ part (term exp4) ∷ []) T.Pair
+  table : Form (term exp3) (word W.Table ∷ in_braces (part (semicolons branch))) (T.TableOf None)
+  table_over : Form (term exp3) (word W.Table ∷ part (term exp6) ∷ in_braces (part (semicolons branch))) (λ t. T.TableOf (Some t))
+  table_list : Form (term exp3) (word W.Table ∷ part (term exp6) ∷ in_brackets (part (semicolons (term exp)))) T.TableList
+  application : Form (term exp4) (part (term exp4) ∷ part (term exp5) ∷ []) T.App
+  case_of : Form (term exp4) (word W.Case ∷ part (term exp) ∷ word W.Of ∷ in_braces (part (semicolons branch))) T.CaseOf
+  variants : Form (term exp4) (word W.Variants ∷ in_braces (part (semicolons (term exp)))) T.Variants
+  projection : Form (term exp5) (part (term exp5) ∷ symbol S.Dot ∷ identifier ∷ []) T.Proj
+  variable : Form (term exp6) (identifier ∷ []) (λ x. T.Var (Written x))
+  literal : Form (term exp6) (text ∷ []) T.Lit
+  literal_in_brackets : Form (term exp6) (in_brackets text) T.Lit
+  a_number : Form (term exp6) (number ∷ []) T.Num
+  no_words : Form (term exp6) (symbol S.LeftBracket ∷ symbol S.RightBracket ∷ []) T.Empty
+  list_category : Form (term exp6) (in_brackets identifier) (λ x. T.ListCat (Written x))
+  strings : Form (term exp6) (word W.Str ∷ []) (T.Sort Sort-V.Str)
+  types : Form (term exp6) (word W.TypeWord ∷ []) (T.Sort Sort-V.TypeSort)
+  parameter_types : Form (term exp6) (word W.ParamTypeWord ∷ []) (T.Sort Sort-V.ParamSort)
+  numbers : Form (term exp6) (word W.Ints ∷ []) (T.Sort Sort-V.Ints)
+  predefined : Form (term exp6) (word W.Predef ∷ []) (T.Sort Sort-V.Predef)
+  a_record : Form (term exp6) (in_braces (part_where (semicolons local) are_fields)) T.Fields
+  tuple : Form (term exp6) (symbol S.Less ∷ part (listed S.Comma (term exp)) ∷ symbol S.Greater ∷ []) T.Tuple
+  typed : Form (term exp6) (symbol S.Less ∷ part (term exp) ∷ symbol S.Colon ∷ part (term exp) ∷ symbol S.Greater ∷ []) T.Typed
+  either : Form (pattern patt) (part (pattern patt) ∷ symbol S.Bar ∷ part (pattern patt1) ∷ []) P.Or
+  in_sequence : Form (pattern patt1) (part (pattern patt1) ∷ symbol S.Plus ∷ part (pattern patt2) ∷ []) P.Seq
+  constructor_with : Form (pattern patt2) (identifier ∷ part (pattern patt4) ∷ part (many (pattern patt4)) ∷ [])
+      (λ x p ps. P.Con None (Written x) (p ∷ ps))
+  constructor_of : Form (pattern patt2) (identifier ∷ symbol S.Dot ∷ identifier ∷ part (many (pattern patt4)) ∷ [])
+      (λ Q x. P.Con (Some Q) (Written x))
+  star : Form (pattern patt3) (part (pattern patt4) ∷ symbol S.Star ∷ []) P.Star
+  as_pattern : Form (pattern patt3) (identifier ∷ symbol S.At ∷ part (pattern patt4) ∷ []) P.As
+  anything : Form (pattern patt4) (symbol S.Underscore ∷ []) P.Any
+  character : Form (pattern patt4) (symbol S.Question ∷ []) P.One
+  named_pattern : Form (pattern patt4) (identifier ∷ []) (λ x. P.Name (Written x))
+  text_pattern : Form (pattern patt4) (text ∷ []) P.Text
+  number_pattern : Form (pattern patt4) (number ∷ []) P.Num
+  record_pattern : Form (pattern patt4)
+      (in_braces (part_where (semicolons field) (λ fs. distinct (flat_map (λ f. f.labels) fs)))) P.Fields
+  tuple_pattern : Form (pattern patt4) (symbol S.Less ∷ part (listed S.Comma (pattern patt)) ∷ symbol S.Greater ∷ []) P.Tuple
+  local_value : Form local (part (listed S.Comma name) ∷ symbol S.Equals ∷ part (term exp) ∷ []) (λ xs e p. Value xs e)
+  local_type : Form local (part (listed S.Comma name) ∷ symbol S.Colon ∷ part (term exp) ∷ []) (λ xs t p. Label xs t)
+  typed_local : Form local (part (listed S.Comma name) ∷ symbol S.Colon ∷ part (term exp) ∷ symbol S.Equals
+      ∷ part (term exp) ∷ []) (λ xs t e p. TypedValue xs t e)
+  a_branch : Form branch (part (pattern patt) ∷ symbol S.DoubleArrow ∷ part (term exp) ∷ [])
+      (λ q e p. record { pattern = q; body = e })
+  a_field : Form field (part (listed S.Comma name) ∷ symbol S.Equals ∷ part (pattern patt) ∷ [])
+      (λ xs q p. record { labels = xs; pattern = q })
+  an_alternative : Form alternative (part (listed S.Comma name) ∷ symbol S.Colon ∷ part (term exp) ∷ symbol S.Equals
+      ∷ part (term exp) ∷ []) (λ xs t e p. record { names = xs; of_type = t; value = e })
+  with_variables : Form context (symbol S.LeftParenthesis ∷ part (listed S.Comma bind) ∷ symbol S.Colon ∷ part (term exp)
+      ∷ symbol S.RightParenthesis ∷ []) (λ xs t p. record { binds = xs; of_type = t })
+  without_variables : Form context (part (term exp6) ∷ []) (λ t p. record { binds = []; of_type = t })
+  a_constructor : Form constructor (part placed_name ∷ part (many context) ∷ []) (λ n cs p. record { name = n; arguments = cs })
+  a_name : Form name (identifier ∷ []) (λ x p. x)
+  a_variable : Form bind (identifier ∷ []) Variable
+  no_variable : Form bind (symbol S.Underscore ∷ []) Nothing
+  a_placed_name : Form placed_name (identifier ∷ []) (λ x p. record { name = x; place = p })
+  category_alone : Form category_name (identifier ∷ []) (λ x p. record { name = x; place = p })
+  category_of_lists : Form category_name (in_brackets identifier) (λ x p. record { name = list_name x; place = p })
+  whole : Form inherited (part placed_name ∷ []) (λ n p. Whole n)
+  only : Form inherited (part placed_name ∷ in_brackets (part (listed S.Comma placed_name))) (λ n ns p. Only n ns)
+  except : Form inherited (part placed_name ∷ symbol S.Minus ∷ in_brackets (part (listed S.Comma placed_name)))
+      (λ n ns p. Except n ns)
+  plainly : Form opened (part placed_name ∷ []) (λ n p. Plain n)
+  by_alias : Form opened (symbol S.LeftParenthesis ∷ part placed_name ∷ symbol S.Equals ∷ part placed_name
+      ∷ symbol S.RightParenthesis ∷ []) (λ q n p. Qualified q n)
+  instance_of : Form substitution (symbol S.LeftParenthesis ∷ part placed_name ∷ symbol S.Equals ∷ part placed_name
+      ∷ symbol S.RightParenthesis ∷ []) (λ i j p. record { interface = i; instance = j })
 
--- the tokens up to the rest spell the part
-pub data Spells : (g : Part) → Tokens → Meaning g → Tokens → Type 0 where
-  one : {g s ts rest a : _} → Spells g ts a rest → Spells (listed s g) ts (a ∷ []) rest
-  more : {g s ts us rest t a bs : _} → Spells g ts a (t ∷ us) → Is s t → Spells (listed s g) us bs rest →
-      Spells (listed s g) ts (a ∷ bs) rest
-  empty : {g ts : _} → Spells (semicolons g) ts [] ts
-  last : {g ts rest a : _} → Spells g ts a rest → Spells (semicolons g) ts (a ∷ []) rest
-  next : {g ts us rest t a bs : _} → Spells g ts a (t ∷ us) → Is S.Semicolon t → Spells (semicolons g) us bs rest →
-      Spells (semicolons g) ts (a ∷ bs) rest
-  none : {g ts : _} → Spells (many g) ts [] ts
-  some : {g ts us rest a bs : _} → Spells g ts a us → Spells (many g) us bs rest → Spells (many g) ts (a ∷ bs) rest
-  a_name : {x t ts : _} → IsNamed x t → Spells name (t ∷ ts) x ts
-  a_variable : {x : _} {t : SourceToken} {ts : _} → IsNamed x t → Spells bind (t ∷ ts) (Variable x t.place) ts
-  no_variable : {t : SourceToken} {ts : _} → Is S.Underscore t → Spells bind (t ∷ ts) (Nothing t.place) ts
-  a_placed_name : {x t ts : _} → IsNamed x t → Spells placed_name (t ∷ ts) (placed x t) ts
-  category_alone : {x t ts : _} → IsNamed x t → Spells category_name (t ∷ ts) (placed x t) ts
-  category_of_lists : {x l t r ts : _} → Is S.LeftBracket l → IsNamed x t → Is S.RightBracket r →
-      Spells category_name (l ∷ t ∷ r ∷ ts) (placed (list_name x) l) ts
-  infix_term : {ts us rest t e a b p i j k s form : _} → Infix i j s k form → Spells (term j) ts a (t ∷ us) → Is s t →
-      Spells (term k) us b rest → FirstAt ts p → out-Term e ≡ form a b p → Spells (term i) ts e rest
-  tighter_term : {ts rest e i j : _} → Tighter i j → Spells (term j) ts e rest → Spells (term i) ts e rest
-  lambda : {ts us rest : _} {t : SourceToken} {u e b xs s a form : _} → Lambda s a form → Is s t →
-      Spells (listed S.Comma bind) ts xs (u ∷ us) → Is a u → Spells (term exp) us b rest → out-Term e ≡ form xs b t.place →
-      Spells (term exp) (t ∷ ts) e rest
-  arrow_from : {ts us vs rest : _} {t : SourceToken} {c d u e a b xs : _} → Is S.LeftParenthesis t →
-      Spells (listed S.Comma bind) ts xs (c ∷ us) → Is S.Colon c → Spells (term exp) us a (d ∷ u ∷ vs) → Is S.RightParenthesis d →
-      Is S.Arrow u → Spells (term exp) vs b rest → out-Term e ≡ T.Arrow xs a b t.place → Spells (term exp) (t ∷ ts) e rest
-  let_in : {ts us rest : _} {t : SourceToken} {u e b ls : _} → IsReserved W.Let t → Spells (semicolons local) ts ls (u ∷ us) →
-      IsReserved W.InWord u → list_all is_value ls ≡ true → Spells (term exp) us b rest → out-Term e ≡ T.Let ls b t.place →
-      Spells (term exp) (t ∷ ts) e rest
-  let_braces : {ts us rest : _} {t : SourceToken} {l r u e b ls : _} → IsReserved W.Let t → Is S.LeftBrace l →
-      Spells (semicolons local) ts ls (r ∷ u ∷ us) → Is S.RightBrace r → IsReserved W.InWord u → list_all is_value ls ≡ true →
-      Spells (term exp) us b rest → out-Term e ≡ T.Let ls b t.place → Spells (term exp) (t ∷ l ∷ ts) e rest
-  where_locals : {ts us rest t l r e b ls p : _} → Spells (term exp3) ts b (t ∷ l ∷ us) → IsReserved W.Where t →
-      Is S.LeftBrace l → Spells (semicolons local) us ls (r ∷ rest) → Is S.RightBrace r → list_all is_value ls ≡ true →
-      FirstAt ts p → out-Term e ≡ T.Let ls b p → Spells (term exp) ts e rest
-  table : {ts rest : _} {t : SourceToken} {l r e cs : _} → IsReserved W.Table t → Is S.LeftBrace l →
-      Spells (semicolons branch) ts cs (r ∷ rest) → Is S.RightBrace r → out-Term e ≡ T.TableOf None cs t.place →
-      Spells (term exp3) (t ∷ l ∷ ts) e rest
-  table_over : {ts us rest : _} {t : SourceToken} {l r e a cs : _} → IsReserved W.Table t → Spells (term exp6) ts a (l ∷ us) →
-      Is S.LeftBrace l → Spells (semicolons branch) us cs (r ∷ rest) → Is S.RightBrace r →
-      out-Term e ≡ T.TableOf (Some a) cs t.place → Spells (term exp3) (t ∷ ts) e rest
-  table_list : {ts us rest : _} {t : SourceToken} {l r e a es : _} → IsReserved W.Table t → Spells (term exp6) ts a (l ∷ us) →
-      Is S.LeftBracket l → Spells (semicolons (term exp)) us es (r ∷ rest) → Is S.RightBracket r →
-      out-Term e ≡ T.TableList a es t.place → Spells (term exp3) (t ∷ ts) e rest
-  application : {ts us rest e f a p : _} → Spells (term exp4) ts f us → Spells (term exp5) us a rest → FirstAt ts p →
-      out-Term e ≡ T.App f a p → Spells (term exp4) ts e rest
-  case_of : {ts us rest : _} {t : SourceToken} {o l r e a cs : _} → IsReserved W.Case t → Spells (term exp) ts a (o ∷ l ∷ us) →
-      IsReserved W.Of o → Is S.LeftBrace l → Spells (semicolons branch) us cs (r ∷ rest) → Is S.RightBrace r →
-      out-Term e ≡ T.CaseOf a cs t.place → Spells (term exp4) (t ∷ ts) e rest
-  variants : {ts rest : _} {t : SourceToken} {l r e es : _} → IsReserved W.Variants t → Is S.LeftBrace l →
-      Spells (semicolons (term exp)) ts es (r ∷ rest) → Is S.RightBrace r → out-Term e ≡ T.Variants es t.place →
-      Spells (term exp4) (t ∷ l ∷ ts) e rest
-  projection : {ts rest d t e a x p : _} → Spells (term exp5) ts a (d ∷ t ∷ rest) → Is S.Dot d → IsNamed x t → FirstAt ts p →
-      out-Term e ≡ T.Proj a x p → Spells (term exp5) ts e rest
-  variable : {ts : _} {t : SourceToken} {e x : _} → IsNamed x t → out-Term e ≡ T.Var (Written x) t.place →
-      Spells (term exp6) (t ∷ ts) e ts
-  literal : {ts : _} {t : SourceToken} {e x : _} → IsQuoted x t → out-Term e ≡ T.Lit x t.place →
-      Spells (term exp6) (t ∷ ts) e ts
-  literal_in_brackets : {ts : _} {l : SourceToken} {t r e x : _} → Is S.LeftBracket l → IsQuoted x t → Is S.RightBracket r →
-      out-Term e ≡ T.Lit x l.place → Spells (term exp6) (l ∷ t ∷ r ∷ ts) e ts
-  number : {ts : _} {t : SourceToken} {e n : _} → IsNumber n t → out-Term e ≡ T.Num n t.place → Spells (term exp6) (t ∷ ts) e ts
-  no_words : {ts : _} {l : SourceToken} {r e : _} → Is S.LeftBracket l → Is S.RightBracket r → out-Term e ≡ T.Empty l.place →
-      Spells (term exp6) (l ∷ r ∷ ts) e ts
-  list_category : {ts : _} {l : SourceToken} {t r e x : _} → Is S.LeftBracket l → IsNamed x t → Is S.RightBracket r →
-      out-Term e ≡ T.ListCat (Written x) l.place → Spells (term exp6) (l ∷ t ∷ r ∷ ts) e ts
-  sort : {ts : _} {t : SourceToken} {e w s : _} → SortWord w s → IsReserved w t → out-Term e ≡ T.Sort s t.place →
-      Spells (term exp6) (t ∷ ts) e ts
-  fields : {ts rest : _} {t : SourceToken} {u e ls : _} → Is S.LeftBrace t → Spells (semicolons local) ts ls (u ∷ rest) →
-      Is S.RightBrace u → are_fields ls ≡ true → out-Term e ≡ T.Fields ls t.place → Spells (term exp6) (t ∷ ts) e rest
-  tuple : {ts rest : _} {t : SourceToken} {u e es : _} → Is S.Less t → Spells (listed S.Comma (term exp)) ts es (u ∷ rest) →
-      Is S.Greater u → out-Term e ≡ T.Tuple es t.place → Spells (term exp6) (t ∷ ts) e rest
-  typed : {ts us rest : _} {t : SourceToken} {c u e a b : _} → Is S.Less t → Spells (term exp) ts a (c ∷ us) → Is S.Colon c →
-      Spells (term exp) us b (u ∷ rest) → Is S.Greater u → out-Term e ≡ T.Typed a b t.place → Spells (term exp6) (t ∷ ts) e rest
-  in_parentheses : {ts rest t u e : _} → Is S.LeftParenthesis t → Spells (term exp) ts e (u ∷ rest) → Is S.RightParenthesis u →
-      Spells (term exp6) (t ∷ ts) e rest
-  local_value : {ts us rest t xs e : _} → Spells (listed S.Comma name) ts xs (t ∷ us) → Is S.Equals t →
-      Spells (term exp) us e rest → Spells local ts (Value xs e) rest
-  local_type : {ts us rest t xs a : _} → Spells (listed S.Comma name) ts xs (t ∷ us) → Is S.Colon t →
-      Spells (term exp) us a rest → Spells local ts (Label xs a) rest
-  typed_local : {ts us vs rest t u xs a e : _} → Spells (listed S.Comma name) ts xs (t ∷ us) → Is S.Colon t →
-      Spells (term exp) us a (u ∷ vs) → Is S.Equals u → Spells (term exp) vs e rest → Spells local ts (TypedValue xs a e) rest
-  a_branch : {ts us rest t p e : _} → Spells (pattern patt) ts p (t ∷ us) → Is S.DoubleArrow t → Spells (term exp) us e rest →
-      Spells branch ts (record { pattern = p; body = e }) rest
-  an_alternative : {ts us vs rest t u xs a e : _} → Spells (listed S.Comma name) ts xs (t ∷ us) → Is S.Colon t →
-      Spells (term exp) us a (u ∷ vs) → Is S.Equals u → Spells (term exp) vs e rest →
-      Spells alternative ts (record { names = xs; of_type = a; value = e }) rest
-  with_variables : {ts us rest t c d xs a : _} → Is S.LeftParenthesis t → Spells (listed S.Comma bind) ts xs (c ∷ us) →
-      Is S.Colon c → Spells (term exp) us a (d ∷ rest) → Is S.RightParenthesis d →
-      Spells context (t ∷ ts) (record { binds = xs; of_type = a }) rest
-  without_variables : {ts rest a : _} → Spells (term exp6) ts a rest →
-      Spells context ts (record { binds = []; of_type = a }) rest
-  a_constructor : {ts rest t x cs : _} → IsNamed x t → Spells (many context) ts cs rest →
-      Spells constructor (t ∷ ts) (record { name = placed x t; arguments = cs }) rest
-  infix_pattern : {ts us rest t r p q a i j k s form : _} → InfixPattern i j s k form → Spells (pattern j) ts p (t ∷ us) →
-      Is s t → Spells (pattern k) us q rest → FirstAt ts a → out-Pattern r ≡ form p q a → Spells (pattern i) ts r rest
-  tighter_pattern : {ts rest r i j : _} → TighterPattern i j → Spells (pattern j) ts r rest → Spells (pattern i) ts r rest
-  constructor_with : {ts rest : _} {t : SourceToken} {x r p ps : _} → IsNamed x t →
-      Spells (many (pattern patt4)) ts (p ∷ ps) rest → out-Pattern r ≡ P.Con None (Written x) (p ∷ ps) t.place →
-      Spells (pattern patt2) (t ∷ ts) r rest
-  constructor_of : {ts rest : _} {t : SourceToken} {d u Q x r ps : _} → IsNamed Q t → Is S.Dot d → IsNamed x u →
-      Spells (many (pattern patt4)) ts ps rest → out-Pattern r ≡ P.Con (Some Q) (Written x) ps t.place →
-      Spells (pattern patt2) (t ∷ d ∷ u ∷ ts) r rest
-  star : {ts rest t r p a : _} → Spells (pattern patt4) ts p (t ∷ rest) → Is S.Star t → FirstAt ts a →
-      out-Pattern r ≡ P.Star p a → Spells (pattern patt3) ts r rest
-  as_pattern : {ts rest : _} {t : SourceToken} {u x r p : _} → IsNamed x t → Is S.At u → Spells (pattern patt4) ts p rest →
-      out-Pattern r ≡ P.As x p t.place → Spells (pattern patt3) (t ∷ u ∷ ts) r rest
-  anything : {ts : _} {t : SourceToken} {r : _} → Is S.Underscore t → out-Pattern r ≡ P.Any t.place →
-      Spells (pattern patt4) (t ∷ ts) r ts
-  character : {ts : _} {t : SourceToken} {r : _} → Is S.Question t → out-Pattern r ≡ P.One t.place →
-      Spells (pattern patt4) (t ∷ ts) r ts
-  named_pattern : {ts : _} {t : SourceToken} {x r : _} → IsNamed x t → out-Pattern r ≡ P.Name (Written x) t.place →
-      Spells (pattern patt4) (t ∷ ts) r ts
-  text_pattern : {ts : _} {t : SourceToken} {x r : _} → IsQuoted x t → out-Pattern r ≡ P.Text x t.place →
-      Spells (pattern patt4) (t ∷ ts) r ts
-  number_pattern : {ts : _} {t : SourceToken} {n r : _} → IsNumber n t → out-Pattern r ≡ P.Num n t.place →
-      Spells (pattern patt4) (t ∷ ts) r ts
-  record_pattern : {ts rest : _} {t : SourceToken} {u r fs : _} → Is S.LeftBrace t → Spells (semicolons field) ts fs (u ∷ rest) →
-      Is S.RightBrace u → distinct (flat_map (λ f. f.labels) fs) ≡ true → out-Pattern r ≡ P.Fields fs t.place →
-      Spells (pattern patt4) (t ∷ ts) r rest
-  tuple_pattern : {ts rest : _} {t : SourceToken} {u r ps : _} → Is S.Less t →
-      Spells (listed S.Comma (pattern patt)) ts ps (u ∷ rest) → Is S.Greater u → out-Pattern r ≡ P.Tuple ps t.place →
-      Spells (pattern patt4) (t ∷ ts) r rest
-  pattern_in_parentheses : {ts rest t u r : _} → Is S.LeftParenthesis t → Spells (pattern patt) ts r (u ∷ rest) →
-      Is S.RightParenthesis u → Spells (pattern patt4) (t ∷ ts) r rest
-  a_field : {ts us rest t xs p : _} → Spells (listed S.Comma name) ts xs (t ∷ us) → Is S.Equals t →
-      Spells (pattern patt) us p rest → Spells field ts (record { labels = xs; pattern = p }) rest
-  whole : {ts t x : _} → IsNamed x t → Spells inherited (t ∷ ts) (Whole (placed x t)) ts
-  only : {ts rest t l r x ns : _} → IsNamed x t → Is S.LeftBracket l → Spells (listed S.Comma placed_name) ts ns (r ∷ rest) →
-      Is S.RightBracket r → Spells inherited (t ∷ l ∷ ts) (Only (placed x t) ns) rest
-  except : {ts rest t m l r x ns : _} → IsNamed x t → Is S.Minus m → Is S.LeftBracket l →
-      Spells (listed S.Comma placed_name) ts ns (r ∷ rest) → Is S.RightBracket r →
-      Spells inherited (t ∷ m ∷ l ∷ ts) (Except (placed x t) ns) rest
-  plainly : {ts t x : _} → IsNamed x t → Spells opened (t ∷ ts) (Plain (placed x t)) ts
-  by_alias : {ts l s e t r q x : _} → Is S.LeftParenthesis l → IsNamed q s → Is S.Equals e → IsNamed x t →
-      Is S.RightParenthesis r → Spells opened (l ∷ s ∷ e ∷ t ∷ r ∷ ts) (Qualified (placed q s) (placed x t)) ts
-  instance_of : {ts l s e t r i j : _} → Is S.LeftParenthesis l → IsNamed i s → Is S.Equals e → IsNamed j t →
-      Is S.RightParenthesis r →
-      Spells substitution (l ∷ s ∷ e ∷ t ∷ r ∷ ts) (record { interface = placed i s; instance = placed j t }) ts
+mutual
+  -- the tokens up to the rest spell the part
+  pub data Spells : (g : Part) → Tokens → Meaning g → Tokens → Type 0 where
+    by_form : {g ps make p ts a rest : _} → Form g ps make → FirstAt ts p → SpellsPieces g ps make p ts (layer g a) rest →
+        Spells g ts a rest
+    tighter_term : {i j ts e rest : _} → Tighter i j → Spells (term j) ts e rest → Spells (term i) ts e rest
+    tighter_pattern : {i j ts q rest : _} → TighterPattern i j → Spells (pattern j) ts q rest → Spells (pattern i) ts q rest
+    in_parentheses : {t u ts e rest : _} → Is S.LeftParenthesis t → Spells (term exp) ts e (u ∷ rest) →
+        Is S.RightParenthesis u → Spells (term exp6) (t ∷ ts) e rest
+    pattern_in_parentheses : {t u ts q rest : _} → Is S.LeftParenthesis t → Spells (pattern patt) ts q (u ∷ rest) →
+        Is S.RightParenthesis u → Spells (pattern patt4) (t ∷ ts) q rest
+    one : {g s ts a rest : _} → Spells g ts a rest → Spells (listed s g) ts (a ∷ []) rest
+    more : {g s t ts us a bs rest : _} → Spells g ts a (t ∷ us) → Is s t → Spells (listed s g) us bs rest →
+        Spells (listed s g) ts (a ∷ bs) rest
+    empty : {g ts : _} → Spells (semicolons g) ts [] ts
+    last : {g ts a rest : _} → Spells g ts a rest → Spells (semicolons g) ts (a ∷ []) rest
+    next : {g t ts us a bs rest : _} → Spells g ts a (t ∷ us) → Is S.Semicolon t → Spells (semicolons g) us bs rest →
+        Spells (semicolons g) ts (a ∷ bs) rest
+    none : {g ts : _} → Spells (many g) ts [] ts
+    some : {g ts us a bs rest : _} → Spells g ts a us → Spells (many g) us bs rest → Spells (many g) ts (a ∷ bs) rest
+
+  -- the tokens up to the rest spell the pieces, of which and of the place the layer is made
+  pub data SpellsPieces : (g : Part) (ps : List Piece) → Maker g ps → Place → Tokens → Layer g → Tokens → Type 0 where
+    no_piece : {g p ts l : _} {make : Maker g []} → l ≡ make p → SpellsPieces g [] make p ts l ts
+    next_symbol : {g s ps make p t ts l rest : _} → Is s t → SpellsPieces g ps make p ts l rest →
+        SpellsPieces g (symbol s ∷ ps) make p (t ∷ ts) l rest
+    next_word : {g w ps make p t ts l rest : _} → IsReserved w t → SpellsPieces g ps make p ts l rest →
+        SpellsPieces g (word w ∷ ps) make p (t ∷ ts) l rest
+    next_part : {g h ps p ts us a l rest : _} {make : Maker g (part h ∷ ps)} → Spells h ts a us →
+        SpellsPieces g ps (make a) p us l rest → SpellsPieces g (part h ∷ ps) make p ts l rest
+    next_identifier : {g ps p t ts x l rest : _} {make : Maker g (identifier ∷ ps)} → IsNamed x t →
+        SpellsPieces g ps (make x) p ts l rest → SpellsPieces g (identifier ∷ ps) make p (t ∷ ts) l rest
+    next_number : {g ps p t ts n l rest : _} {make : Maker g (number ∷ ps)} → IsNumber n t →
+        SpellsPieces g ps (make n) p ts l rest → SpellsPieces g (number ∷ ps) make p (t ∷ ts) l rest
+    next_text : {g ps p t ts x l rest : _} {make : Maker g (text ∷ ps)} → IsQuoted x t →
+        SpellsPieces g ps (make x) p ts l rest → SpellsPieces g (text ∷ ps) make p (t ∷ ts) l rest
+    next_part_where : {g h test ps p ts us a l rest : _} {make : Maker g (part_where h test ∷ ps)} → Spells h ts a us →
+        test a ≡ true → SpellsPieces g ps (make a) p us l rest → SpellsPieces g (part_where h test ∷ ps) make p ts l rest
 
 -- the tokens up to the rest spell a term of the level
 abbrev pub SpellsTerm : Level → Tokens → Term → Tokens → Type 0
