@@ -1,5 +1,5 @@
 -- Worked examples of abstract types: some that name each other, read as they are written, and two refusals.
-use Rattle.std.proofs.Common.{◌≡◌, ◌∙◌, ap, refl, subst, ℕ, suc, Bool, true, false, List, [], ◌∷◌, ◌++◌, Some, arith}
+use Rattle.std.proofs.Common.{◌≡◌, ◌∙◌, ap, refl, subst, ℕ, suc, Bool, true, false, List, [], ◌∷◌, ◌++◌, Some, inl, arith}
 use Rattle.std.specs.Prelude.{codes, bytes_eq, slice_get}
 use Rattle.gft_core.specs.declared.place.Place.{Place}
 use Rattle.gft_core.specs.declared.tree.Tree.{Tree, roll-Tree}
@@ -109,22 +109,12 @@ abbrev tag_of_seven : Judgement
 tag_of_seven = J.Fun (named (codes "t") ∷ []) (roll-Term (T.App tag_term seven (here 31)))
 
 kind_expected : AbstractFaults.Expects kinds [] [] tag_term (AbstractFaults.without_indices (codes "Kind"))
-kind_expected = (
-  tag_term,
-  [],
-  whole (codes "Tag"),
-  AbstractFaults.without_indices (codes "Kind") ∷ [],
-  [],
-  AbstractFaults.without_indices (codes "Kind"),
-  a_name [] _ _ [],
-  ap AbstractFaults.head_name (out-roll-Term _),
-  AbstractFaults.by_category (AbstractFaults.its_context (1, omega arith, refl) (AbstractFaults.more_context
-      (AbstractFaults.indexed (a_name [] _ _ []) (ap AbstractFaults.head_name (out-roll-Term _)) (0, omega arith, refl) AbstractFaults.no_index)
-      AbstractFaults.no_context)),
-  AbstractFaults.no_index,
-  refl,
-  refl,
-)
+kind_expected =
+    AbstractFaults.expects {w = whole (codes "Tag")} {A = AbstractFaults.without_indices (codes "Kind")} {ts = []} (a_name [] _ _ [])
+    (ap AbstractFaults.head_name (out-roll-Term _))
+    (inl (AbstractFaults.its_context (1, omega arith, refl) (AbstractFaults.more_context
+    (AbstractFaults.indexed (a_name [] _ _ []) (ap AbstractFaults.head_name (out-roll-Term _)) (0, omega arith, refl)
+    AbstractFaults.no_index) AbstractFaults.no_context))) AbstractFaults.no_index refl
 
 module _ (LeftOut : Whole → Type 0) where
   -- 1:35, with Kind, Int

@@ -126,7 +126,7 @@ no_brace t (suc (suc zero), h, e) l = let same = ap (λ (u : SourceToken). u.for
 no_brace t (suc (suc (suc k)), h, e) l = absurd (omega (arith, h))
 
 opens : SyntaxFaults.OpensBody (header ++ brace ∷ body) header brace body
-opens = record { tokens = refl; is_brace = refl; is_first = no_brace }
+opens = SyntaxFaults.opens_body refl refl no_brace
 
 -- the slice before the function is in the grammar, so it is not the first that is not
 abbrev spelled_category : SpellsSlice None category_slice K.Cat (J.Cat (placed (codes "S") (at 19 (Identifier (codes "S")))) [])

@@ -35,6 +35,7 @@ pub record Indexed : Type 0 where
   pub category : List ℕ
   pub indices : List Tree
 
+-- a category without indices
 abbrev pub without_indices : List ℕ → Indexed
 without_indices C = record { category = C; indices = [] }
 
@@ -87,7 +88,8 @@ abbrev pub context_of_part : ℕ → Layer → List Context
 context_of_part (suc k) (T.Arrow xs a b place) = record { binds = xs; of_type = a } ∷ []
 context_of_part k d = []
 
--- the form may stand there, as a head or not
+-- the form may stand there, as a head or not: names and applications anywhere, [C] but as an index, arrows and literals as
+-- no head, arrows as no index and literals as no type
 abbrev pub may_stand : Role → Bool → Layer → Bool
 may_stand r is_head (T.Var n place) = true
 may_stand r is_head (T.App f a place) = true
@@ -119,6 +121,7 @@ NamesBuiltIn Γ r = (x : List ℕ) × (r ≡ Written x) × IsBuiltIn x × (field
 
 -- the categories and the functions of a module; what stands in contexts sees these, the last first
 module _ (cats funs : List FlatJudgement) where
+  -- a category, or one that is built in
   abbrev pub IsCategory : List Context → Reference → Type 0
   IsCategory Γ r = ((w : Whole) × (r ≡ WholeName w) × IsAmong cats w) ⊎ NamesBuiltIn Γ r
 
@@ -139,6 +142,7 @@ module _ (cats funs : List FlatJudgement) where
       application : {e h es : _} {w : Whole} {p ts : _} → Spine e [] h es → out-Term h ≡ T.Var (WholeName w) p →
           IsAmong funs w → AreIndices Γ es ts → IsIndex Γ e (roll-Tree (Tree-F.App w.name ts))
 
+    -- so are terms the trees
     pub data AreIndices (Γ : List Context) : List Term → List Tree → Type 0 where
       no_index : AreIndices Γ [] []
       one_index : {e es t ts : _} → IsIndex Γ e t → AreIndices Γ es ts → AreIndices Γ (e ∷ es) (t ∷ ts)
@@ -183,15 +187,13 @@ module _ (cats funs : List FlatJudgement) where
         AreIndices Γ es ts → IndexHas Γ e (indexed_at ts B)
 
   -- the types that a category or a function takes
-  pub data TakesTypes (w : Whole) : List Indexed → Type 0 where
-    by_category : {As : _} → HasContext w As → TakesTypes w As
-    by_function : {As B : _} → HasSignature w As B → TakesTypes w As
+  abbrev pub TakesTypes : Whole → List Indexed → Type 0
+  TakesTypes w As = HasContext w As ⊎ ((B : Indexed) × HasSignature w As B)
 
   -- the type that the next index in an application of f must have
-  abbrev pub Expects : List Context → Term → Indexed → Type 0
-  Expects Γ f B = (h : Term) × (es : List Term) × (w : Whole) × (As : List Indexed) × (ts : List Tree) × (A : Indexed)
-      × Spine f [] h es × (head_name (out-Term h) ≡ Some (WholeName w)) × TakesTypes w As × AreIndices Γ es ts
-      × (slice_get As (length es) ≡ Some A) × (B ≡ indexed_at ts A)
+  pub data Expects (Γ : List Context) (f : Term) : Indexed → Type 0 where
+    expects : {h es w As A ts : _} → Spine f [] h es → head_name (out-Term h) ≡ Some (WholeName w) → TakesTypes w As →
+        AreIndices Γ es ts → slice_get As (length es) ≡ Some A → Expects Γ f (indexed_at ts A)
 
   -- a term of the judgement, where it stands, and whether it is a head
   pub data StandsIn (j : Judgement) : Moment → List Context → Term → Role → Bool → Type 0 where

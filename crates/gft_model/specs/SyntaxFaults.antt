@@ -37,10 +37,8 @@ abbrev pub NoBody : Tokens → Type 0
 NoBody ts = (t : SourceToken) → Contains ts t → ¬ (Is S.LeftBrace t)
 
 -- the body's brace is the first one
-pub record OpensBody (ts held : Tokens) (brace : SourceToken) (body : Tokens) : Type 0 where
-  pub tokens : ts ≡ held ++ brace ∷ body
-  pub is_brace : Is S.LeftBrace brace
-  pub is_first : NoBody held
+pub data OpensBody (ts held : Tokens) (brace : SourceToken) (body : Tokens) : Type 0 where
+  opens_body : ts ≡ held ++ brace ∷ body → Is S.LeftBrace brace → NoBody held → OpensBody ts held brace body
 
 -- the keyword after slices that are in the grammar: that of the last one that is not empty
 pub data KeywordAfter : List Tokens → Option Keyword → Type 0 where
