@@ -26,21 +26,21 @@ use Rattle.gft_model.proofs.Beginnings.{impossible}
 use Rattle.gft_model.proofs.SliceLaws.{same-part, same-rest, at, same-name, not-begun, tail-is, slice-once}
 
 -- the slices of a body are at most one list of judgements
-slices-once : {before : Option Keyword} {ss : List Tokens} {is js : List Judgement} →
-    SpellsSlices before ss is → SpellsSlices before ss js → is ≡ js
+slices-once : {before k l : Option Keyword} {ss : List Tokens} {is js : List Judgement} →
+    SpellsSlices before ss k is → SpellsSlices before ss l js → is ≡ js
 slices-once M.no_slice M.no_slice = refl
 slices-once (M.empty_slice d) (M.empty_slice e) = slices-once d e
-slices-once (M.slice {k = k} {ss = ss} {j = i} {js = is} a d) (M.slice {j = j} {js = js} b e) =
+slices-once (M.slice {ss = ss} {j = i} {js = is} a d) (M.slice {after = l} {j = j} {js = js} b e) =
     let same = slice-once a b in
-    ap (λ x. x ∷ is) same.1 ∙ ap (λ xs. j ∷ xs) (slices-once d (subst (λ l. SpellsSlices (Some l) ss js) (sym same.0) e))
+    ap (λ x. x ∷ is) same.1 ∙ ap (λ xs. j ∷ xs) (slices-once d (subst (λ k. SpellsSlices (Some k) ss l js) (sym same.0) e))
 
-same-slices : {ts us vs ws : Tokens} {ss rs : List Tokens} {is js : List Judgement} → ts ≡ us →
-    slices_of ts ≡ (ss, Some vs) → SpellsSlices None ss is → slices_of us ≡ (rs, Some ws) → SpellsSlices None rs js →
+same-slices : {ts us vs ws : Tokens} {ss rs : List Tokens} {k l : Option Keyword} {is js : List Judgement} → ts ≡ us →
+    slices_of ts ≡ (ss, Some vs) → SpellsSlices None ss k is → slices_of us ≡ (rs, Some ws) → SpellsSlices None rs l js →
     (is ≡ js) × (vs ≡ ws)
-same-slices {vs = vs} {ws = ws} {ss = ss} {rs = rs} {js = js} e h d i f =
+same-slices {vs = vs} {ws = ws} {ss = ss} {rs = rs} {l = l} {js = js} e h d i f =
     let both : ◌≡◌ {A = List Tokens × Option Tokens} (ss, Some vs) (rs, Some ws) = sym h ∙ ap slices_of e ∙ i in
     let rest : Some vs ≡ Some ws = ap (λ (x : List Tokens × Option Tokens). x.1) both in
-    (slices-once d (subst (λ xs. SpellsSlices None xs js) (sym (ap (λ (x : List Tokens × Option Tokens). x.0) both)) f), cc)
+    (slices-once d (subst (λ xs. SpellsSlices None xs l js) (sym (ap (λ (x : List Tokens × Option Tokens). x.0) both)) f), cc)
 
 pub forms-agree : {t u : SourceToken} {ts us : Tokens} → t ∷ ts ≡ u ∷ us → t.form ≡ u.form
 forms-agree {t} {u} e = let same : t ≡ u = cc in ap (λ x. x.form) same

@@ -25,7 +25,7 @@ use Rattle.gft_model.specs.Grammar.{IsReserved, placed, listed, placed_name}
 use Rattle.gft_model.proofs.GrammarRules as Rules
 use Rattle.gft_model.proofs.GrammarRules.{ruled}
 use Rattle.gft_model.proofs.GrammarTable.{tabled}
-use Rattle.gft_model.specs.ModuleGrammar.{SpellsJudgement, SpellsSlice, with_keyword, goes_on, keyword_word, category, function, linearization}
+use Rattle.gft_model.specs.ModuleGrammar.{SpellsJudgement, SpellsSlice, with_keyword, goes_on, slice, no_slice, keyword_word, category, function, linearization}
 use Rattle.gft_model.specs.Refusals.{refusal}
 use Rattle.gft_model.specs.Source.{lexeme_at, longest, token, nothing}
 use Rattle.gft_model.specs.SyntaxFaults
@@ -137,7 +137,7 @@ category_is_derivable = SyntaxFaults.a_judgement spelled_category
 
 has_slice : SyntaxFaults.HasSlice (header ++ brace ∷ body) 2 (SyntaxFaults.in_body true (Some K.Cat)) function_slice
 has_slice =
-    SyntaxFaults.of_body (category_slice ∷ []) ([] ∷ []) opens refl (SyntaxFaults.after_judgement SyntaxFaults.at_first spelled_category)
+    SyntaxFaults.of_body (category_slice ∷ []) ([] ∷ []) opens refl (slice spelled_category no_slice)
 
 -- the token a is no function
 no_names : {ns : List PlacedName} {c : SourceToken} {us : List SourceToken} →

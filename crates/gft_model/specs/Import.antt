@@ -59,8 +59,8 @@ module _ (mods : List Module) where
   -- what is broken in a module: its header, by number and then by place, names declared twice, names, by place, then
   -- types; interfaces and incomplete modules are typed in instances alone
   pub data BreaksModule (named : Bool) (m : Module) : Moment → Refusal → Type 0 where
-    in_header : {rule : _} {n : PlacedName} {ms : _} → BreaksHeader mods named m rule n ms →
-        BreaksModule named m (0 ∷ code_of rule ∷ place_moment n.place ++ name_moment n.name ++ modules_moment ms) (at_name rule n ms)
+    in_header : {rule : _} {n : PlacedName} {ms : _} → BreaksHeader mods named m rule n ms → BreaksModule named m
+        (0 ∷ code_of rule ∷ place_moment n.place ++ name_moment n.name ++ modules_moment ms) (at_name rule n ms)
     twice : {at r : _} → Redefines m at r → BreaksModule named m (1 ∷ at) r
     in_names : {rule : _} {n : PlacedName} {ms : _} (is_constructor : List ℕ → Bool) → AreConstructors mods m is_constructor →
         BreaksNames mods m is_constructor rule n ms →

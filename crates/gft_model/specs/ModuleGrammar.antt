@@ -153,19 +153,19 @@ pub data SpellsSlice : Option Keyword → Tokens → Keyword → Judgement → T
       SpellsSlice before (t ∷ ts) k j
   goes_on : {k t ts j : _} → SpellsJudgement k (t ∷ ts) j → SpellsSlice (Some k) (t ∷ ts) k j
 
--- the slices of a body; an empty one says nothing
-pub data SpellsSlices : Option Keyword → List Tokens → List Judgement → Type 0 where
-  no_slice : {before : _} → SpellsSlices before [] []
-  empty_slice : {before ss js : _} → SpellsSlices before ss js → SpellsSlices before ([] ∷ ss) js
-  slice : {before k t ts ss j js : _} → SpellsSlice before (t ∷ ts) k j → SpellsSlices (Some k) ss js →
-      SpellsSlices before ((t ∷ ts) ∷ ss) (j ∷ js)
+-- the slices of a body, with the keywords before and after them; an empty one says nothing
+pub data SpellsSlices : Option Keyword → List Tokens → Option Keyword → List Judgement → Type 0 where
+  no_slice : {before : _} → SpellsSlices before [] before []
+  empty_slice : {before ss after js : _} → SpellsSlices before ss after js → SpellsSlices before ([] ∷ ss) after js
+  slice : {before k t ts ss after j js : _} → SpellsSlice before (t ∷ ts) k j → SpellsSlices (Some k) ss after js →
+      SpellsSlices before ((t ∷ ts) ∷ ss) after (j ∷ js)
 
 -- a body: what it opens, and its slices in braces
 pub data SpellsBody : Tokens → Body → Tokens → Type 0 where
-  closed_body : {ts rest l ss js : _} → Is S.LeftBrace l → slices_of ts ≡ (ss, Some rest) → SpellsSlices None ss js →
+  closed_body : {ts rest l ss k js : _} → Is S.LeftBrace l → slices_of ts ≡ (ss, Some rest) → SpellsSlices None ss k js →
       SpellsBody (l ∷ ts) (record { opened = []; judgements = js }) rest
-  opening_body : {ts us rest o i l os ss js : _} → IsReserved W.OpenWord o → Spells (listed S.Comma opened) ts os (i ∷ l ∷ us) →
-      IsReserved W.InWord i → Is S.LeftBrace l → slices_of us ≡ (ss, Some rest) → SpellsSlices None ss js →
+  opening_body : {ts us rest o i l os ss k js : _} → IsReserved W.OpenWord o → Spells (listed S.Comma opened) ts os (i ∷ l ∷ us) →
+      IsReserved W.InWord i → Is S.LeftBrace l → slices_of us ≡ (ss, Some rest) → SpellsSlices None ss k js →
       SpellsBody (o ∷ ts) (record { opened = os; judgements = js }) rest
 
 -- the kinds of modules that name no other

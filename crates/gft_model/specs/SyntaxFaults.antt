@@ -11,7 +11,7 @@ use Rattle.gft_syntax.specs.declared.token.TokenForm.{TokenForm}
 use Rattle.gft_syntax.specs.Parts.{judgement_parts, height}
 use Rattle.gft_syntax.specs.Terms.{place_of}
 use Rattle.gft_model.specs.Grammar.{Tokens, Is}
-use Rattle.gft_model.specs.ModuleGrammar.{Mark, mark_of, opening, closing_brace, closing, slices_of, SpellsSlice, SpellsModule, AtEnd}
+use Rattle.gft_model.specs.ModuleGrammar.{Mark, mark_of, opening, closing_brace, closing, slices_of, SpellsSlice, SpellsSlices, SpellsModule, AtEnd}
 use Rattle.gft_model.specs.Refusals.{Moment, refusal, place_moment}
 use Rattle.gft_model.specs.Source.{form_of, first_place}
 
@@ -40,19 +40,12 @@ NoBody ts = (t : SourceToken) → Contains ts t → ¬ (Is S.LeftBrace t)
 pub data OpensBody (ts held : Tokens) (brace : SourceToken) (body : Tokens) : Type 0 where
   opens_body : ts ≡ held ++ brace ∷ body → Is S.LeftBrace brace → NoBody held → OpensBody ts held brace body
 
--- the keyword after slices that are in the grammar: that of the last one that is not empty
-pub data KeywordAfter : List Tokens → Option Keyword → Type 0 where
-  at_first : KeywordAfter [] None
-  after_empty : {ss before : _} → KeywordAfter ss before → KeywordAfter (ss ++ [] ∷ []) before
-  after_judgement : {ss before ts k j : _} → KeywordAfter ss before → SpellsSlice before ts k j →
-      KeywordAfter (ss ++ ts ∷ []) (Some k)
-
 -- the slice of that number, from 0, of a file's tokens; one of the body where those before it are in the grammar
 pub data HasSlice (ts : Tokens) : ℕ → SliceKind → Tokens → Type 0 where
   no_body : NoBody ts → HasSlice ts 0 whole_file ts
   before_body : {held body l : _} → OpensBody ts held l body → HasSlice ts 0 (header l) held
-  of_body : {held body l s rest k : _} (before after : List Tokens) → OpensBody ts held l body →
-      slices_of body ≡ (before ++ s ∷ after, rest) → KeywordAfter before k →
+  of_body : {held body l s rest k js : _} (before after : List Tokens) → OpensBody ts held l body →
+      slices_of body ≡ (before ++ s ∷ after, rest) → SpellsSlices None before k js →
       HasSlice ts (suc (length before)) (in_body (is_some rest || nat_lt 0 (length after)) k) s
   after_body : {held body l ss rest : _} → OpensBody ts held l body → slices_of body ≡ (ss, Some rest) →
       HasSlice ts (suc (length ss)) following rest
