@@ -12,7 +12,7 @@ use Rattle.gft_syntax.specs.declared.judgement.Setting.TheVariants as V
 use Rattle.gft_syntax.specs.declared.module.Module.{Module}
 use Rattle.gft_syntax.specs.declared.reference.Whole.{Whole}
 use Rattle.gft_syntax.specs.declared.term.Term.{Term}
-use Rattle.gft_model.specs.Modules.{Is, Has, declares, is_given, inherits, keeps, instantiates, HasNameable, at_home, from_opened, from_named, functor_of, Means, own_name, Declared, own, Writes, own_text, inherited_of, opened_of, judgements_of, declared_names, mentions, main_name}
+use Rattle.gft_model.specs.Modules.{Is, Has, declares, is_given, inherits, keeps, instantiates, HasNameable, at_home, for_bare, for_qualified, from_opened, functor_of, Means, own_name, Declared, own, Writes, own_text, inherited_of, opened_of, judgements_of, declared_names, mentions, main_name}
 use Rattle.gft_model.specs.Resolution.{Names, resolved_judgement}
 use Rattle.gft_model.specs.Flats.{whole_of, alone, part_of, IsConstructor, Part, parameters, opers, RestsOn, itself, through, IsMeaning, AreMeanings, IsEntry, HasOfPart, HasAbstract, HasSomewhere, Precedes, AreListed, start_of, IsFlat, categories, functions}
 use Rattle.gft_model.specs.Refusals.{Moment, Before, sooner, later_on}
@@ -79,11 +79,11 @@ module _ (p : Place) (T e : Term) where
   -- what names mean there
   meant : {x : List ℕ} {d : Declared} → Means mods (own (codes "R2") 0) None x d → (mk ≡ x) × (d ≡ own (codes "R2") 0)
   meant (own_name k (at_home h)) = had h.has
-  meant (own_name k (from_opened is n (i, b, f) h)) =
+  meant (own_name k (from_opened is (for_bare (i, b, f) n h))) =
       absurd (let none = ap (λ m. length (opened_of m)) (is_r2 is) in omega (arith, b, none))
 
   unqualified : {Q x : List ℕ} {d : Declared} → Means mods (own (codes "R2") 0) (Some Q) x d → ⊥
-  unqualified (own_name k (from_named is (o, (i, b, f), q, n) h)) =
+  unqualified (own_name k (from_opened is (for_qualified (i, b, f) q h))) =
       let none = ap (λ m. length (opened_of m)) (is_r2 is) in omega (arith, b, none)
 
   abbrev only_mk : Option (List ℕ) → List ℕ → Option Whole

@@ -64,7 +64,7 @@ module _ (t e : Term) where
   -- a resource is no named source: 1:10, with Z
   pub no_source : BreaksModule mods true both (0 ∷ code_of R.WrongKind ∷ 1 ∷ 10 ∷ name_moment (codes "Z") ++ [])
       (refusal R.WrongKind (here 10) (codes "Z" ∷ []))
-  no_source = in_header (HeaderFaults.source_of_wrong_kind refl refl (inl refl))
+  no_source = in_header (HeaderFaults.source_of_wrong_kind refl refl)
 
   -- abstract A = {cat S ; fun S : S ;}: the second S, at 1:27
   abbrev twice_s : Module

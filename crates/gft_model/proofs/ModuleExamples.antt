@@ -17,7 +17,7 @@ use Rattle.gft_syntax.specs.declared.module.Rest.TheVariants.{Own, With}
 use Rattle.gft_syntax.specs.declared.reference.PlacedName.{PlacedName}
 use Rattle.gft_syntax.specs.declared.term.Term.{Term}
 use Rattle.gft_model.specs.Flats.{IsOf}
-use Rattle.gft_model.specs.Modules.{Is, Has, declares, is_given, inherits, keeps, instantiates, HasNameable, Sees, from_opened, from_named, functor_of, turn, here, by_argument, Means, own_name, replaced, Declared, own, copy, own_text, inherited_of, inherited_name, judgements_of, declared_names}
+use Rattle.gft_model.specs.Modules.{Is, Has, declares, is_given, inherits, keeps, instantiates, HasNameable, Sees, for_bare, for_qualified, from_opened, functor_of, turn, here, by_argument, Means, own_name, replaced, Declared, own, copy, own_text, inherited_of, inherited_name, judgements_of, declared_names}
 
 -- pairs of the same first parts
 same_first : {A B : Type 0} {p q : A × B} → Some p ≡ Some q → p.0 ≡ q.0
@@ -87,14 +87,15 @@ module _ (p : Place) (T e : Term) where
 
   -- mk means the oper of R1 and that of R2: it is ambiguous
   pub first_meaning : Sees amb (codes "AmbEng") None (codes "mk") (own (codes "R1") 0)
-  first_meaning = from_opened refl (λ f h. opened_is_not_had f h.has) (0, omega arith, refl) (mk_of (codes "R1") refl)
+  first_meaning = from_opened refl (for_bare (0, omega arith, refl) (λ f h. opened_is_not_had f h.has) (mk_of (codes "R1") refl))
 
   pub second_meaning : Sees amb (codes "AmbEng") None (codes "mk") (own (codes "R2") 0)
-  second_meaning = from_opened refl (λ f h. opened_is_not_had f h.has) (1, omega arith, refl) (mk_of (codes "R2") refl)
+  second_meaning = from_opened refl (for_bare (1, omega arith, refl) (λ f h. opened_is_not_had f h.has) (mk_of (codes "R2") refl))
 
   -- R2.mk means that of R2
   pub qualified_meaning : Sees amb (codes "AmbEng") (Some (codes "R2")) (codes "mk") (own (codes "R2") 0)
-  qualified_meaning = from_named refl (Plain (named (codes "R2")), (1, omega arith, refl), (0, omega arith, refl), refl) (mk_of (codes "R2") refl)
+  qualified_meaning =
+      from_opened refl (for_qualified {o = Plain (named (codes "R2"))} (1, omega arith, refl) (0, omega arith, refl) (mk_of (codes "R2") refl))
 
   -- interface Lex = {oper hello : Str ;} ; instance LexEng of Lex = {oper hello : Str = "hello" ;} ;
   -- incomplete concrete HiI of Hi = open Lex in {..} ; concrete HiEng of Hi = HiI with (Lex = LexEng)
@@ -178,7 +179,7 @@ module _ (p : Place) (T e : Term) where
   -- in the functor hello means the interface's, in the copy that of the instance
   pub means_in_functor : Means hi (own (codes "HiI") 1) None (codes "hello") (own (codes "Lex") 0)
   means_in_functor =
-      own_name 1 (from_opened refl (λ f h. no_hello_in_functor f h.has) (0, omega arith, refl) hello_of_lex)
+      own_name 1 (from_opened refl (for_bare (0, omega arith, refl) (λ f h. no_hello_in_functor f h.has) hello_of_lex))
 
   pub means_in_copy : Means hi (copy (codes "HiEng") (own (codes "HiI") 1)) None (codes "hello") (own (codes "LexEng") 0)
   means_in_copy = replaced means_in_functor (by_argument refl refl (here hello_of_lex hello_of_lex_eng))

@@ -23,7 +23,7 @@ use Rattle.gft_model.specs.Resolution.{is_local}
 use Rattle.gft_syntax.specs.declared.term.Term.{Term, roll-Term, out-Term}
 use Rattle.gft_syntax.specs.declared.term.Term.TheOpen as T
 use Rattle.gft_syntax.specs.declared.term.Term.TheViews.{out-roll-Term}
-use Rattle.gft_model.specs.Modules.{Is, Has, Sees, functor_of, declares, is_given, inherits, keeps, instantiates, HasNameable, from_opened, Declared, own, own_text, module_of, inherited_of, judgements_of, opened_of, declared_names}
+use Rattle.gft_model.specs.Modules.{Is, Has, Sees, functor_of, declares, is_given, inherits, keeps, instantiates, HasNameable, Offers, for_bare, from_opened, Declared, own, own_text, module_of, inherited_of, judgements_of, opened_of, declared_names}
 use Rattle.gft_model.specs.NameFaults
 use Rattle.gft_model.specs.HeaderFaults.{Clash}
 use Rattle.gft_model.specs.Refusals.{refusal, sooner, later_on, name_at}
@@ -115,12 +115,12 @@ module _ (t e : Term) where
   used : (is_constructor : List ℕ → Bool) → NameFaults.Uses mods amb_eng is_constructor None (name_at mk (here 3 16))
   used is_constructor = NameFaults.alone (mk_within is_constructor) (out-roll-Term _) refl
 
-  mk_clash : Clash (NameFaults.Gives mods amb_eng mk None) (named 31 (codes "R1")) (named 35 (codes "R2"))
+  mk_clash : Clash (Offers mods amb_eng mk None) (named 31 (codes "R1")) (named 35 (codes "R2"))
   mk_clash = (
     own (codes "R1") 0,
     own (codes "R2") 0,
-    NameFaults.for_bare (0, omega arith, refl) (λ d h. not_had d h.has) (mk_of (codes "R1") refl),
-    NameFaults.for_bare (1, omega arith, refl) (λ d h. not_had d h.has) (mk_of (codes "R2") refl),
+    for_bare (0, omega arith, refl) (λ d h. not_had d h.has) (mk_of (codes "R1") refl),
+    for_bare (1, omega arith, refl) (λ d h. not_had d h.has) (mk_of (codes "R2") refl),
     λ q. let wrong : true ≡ false = ap (λ d. bytes_eq (module_of d) (codes "R1")) q in cc,
     later_on (sooner (omega arith)),
   )
@@ -134,7 +134,7 @@ module _ (t e : Term) where
 
   -- it is not unknown: the rule that a name means nothing is not broken there
   pub mk_means_something : Sees mods (codes "AmbEng") None mk (own (codes "R1") 0)
-  mk_means_something = from_opened refl (λ f h. not_had f h.has) (0, omega arith, refl) (mk_of (codes "R1") refl)
+  mk_means_something = from_opened refl (for_bare (0, omega arith, refl) (λ f h. not_had f h.has) (mk_of (codes "R1") refl))
 
   -- in a module of the same names with one more judgement, lin b = (Nope).x: what is before the dot is used at its own place,
   -- after the parenthesis

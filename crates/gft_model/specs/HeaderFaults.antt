@@ -13,7 +13,7 @@ use Rattle.gft_syntax.specs.declared.module.Inherited.TheVariants.{Whole, Only, 
 use Rattle.gft_syntax.specs.declared.module.Module.{Module}
 use Rattle.gft_syntax.specs.declared.module.Substitution.{Substitution}
 use Rattle.gft_syntax.specs.declared.reference.PlacedName.{PlacedName}
-use Rattle.gft_model.specs.Modules.{is_abstract, is_interface, is_incomplete, is_concrete, placed_names, sort_of, functor_of, restricted_of, Gives, inherited_at, opened_at, Is, Has, HasNameable, Writes, OpensAs, Declared, header_name, header_mentions, inherited_of, inherited_name, judgements_of, opened_of, is_undefined}
+use Rattle.gft_model.specs.Modules.{is_abstract, is_interface, is_incomplete, is_concrete, placed_names, sort_of, functor_of, restricted_of, Gives, inherited_at, opened_at, Is, Has, HasNameable, Writes, Declared, header_name, header_mentions, inherited_of, inherited_name, judgements_of, opened_of, is_undefined}
 use Rattle.gft_model.specs.Refusals.{Moment, Before, place_moment, name_at, at_name}
 
 -- an instance is a resource too
@@ -54,10 +54,6 @@ listed_names (Only n xs) = xs
 listed_names (Except n xs) = xs
 listed_names (Whole n) = []
 
--- the module copies a functor, with substitutions
-abbrev pub IsWith : Module → Inherited → List Substitution → Type 0
-IsWith m f ss = functor_of m.rest ≡ Some (f, ss)
-
 -- a module that a header names, and which kinds are allowed there
 pub data Wants (m : Module) : PlacedName → (Header → Bool) → Type 0 where
   after_of : {n : _} → Contains (header_mentions m.header) n →
@@ -74,8 +70,8 @@ module _ (mods : List Module) where
   -- the interfaces that an incomplete module leaves open: those that it opens, and those of the incomplete
   -- modules that it inherits from
   pub data Parameter : List ℕ → List ℕ → Type 0 where
-    opens : {F Q I : _} {m i : Module} → Is mods F m → is_incomplete m.header ≡ true → OpensAs mods m Q I → Is mods I i →
-        is_interface i.header ≡ true → Parameter F I
+    opens : {F o : _} {m i : Module} → Is mods F m → is_incomplete m.header ≡ true → Contains (opened_of m) o →
+        Is mods (opened_at o).name i → is_interface i.header ≡ true → Parameter F (opened_at o).name
     passes_on : {F I : _} {m : Module} {h : _} → Is mods F m → Contains (inherited_of m.rest) h → Parameter (inherited_name h) I →
         Parameter F I
 
@@ -92,28 +88,27 @@ module _ (mods : List Module) where
   pub data BreaksHeader (named : Bool) (m : Module) : Rule → PlacedName → List PlacedName → Type 0 where
     module_of_wrong_kind : {n : PlacedName} {allowed : _} {o : Module} → Wants m n allowed → Is mods n.name o →
         allowed o.header ≡ false → BreaksHeader named m R.WrongKind n []
-    functor_of_no_concrete : {f ss : _} {o : Module} → IsWith m f ss → is_concrete m.header ≡ false →
+    functor_of_no_concrete : {f ss : _} {o : Module} → functor_of m.rest ≡ Some (f, ss) → is_concrete m.header ≡ false →
         Is mods (inherited_name f) o → is_incomplete o.header ≡ true → BreaksHeader named m R.WrongKind (inherited_at f) []
     judgement_of_wrong_kind : {j n ns : _} → Contains (judgements_of m) j → may_stand j m.header ≡ false →
         placed_names j ≡ n ∷ ns → BreaksHeader named m R.WrongKind n []
-    source_of_wrong_kind : named ≡ true → is_abstract m.header ≡ false →
-        (is_concrete m.header ≡ false) ⊎ (is_incomplete m.header ≡ true) →
+    source_of_wrong_kind : named ≡ true →
+        (is_abstract m.header || (is_concrete m.header && not (is_incomplete m.header))) ≡ false →
         BreaksHeader named m R.WrongKind (header_name m.header) []
     restricts_unknown : {h : _} {n : PlacedName} → Contains (restricted_of m.rest) h → Contains (listed_names h) n →
-        ((d : Declared) → ¬ (Has mods (inherited_name h) n.name d)) →
-        BreaksHeader named m R.RestrictUnknown n []
+        ((d : Declared) → ¬ (Has mods (inherited_name h) n.name d)) → BreaksHeader named m R.RestrictUnknown n []
     inherited_clash : {k x i : _} {n : PlacedName} → Clash (GivesOf k m x) i n →
         BreaksHeader named m R.InheritClash (name_at x n.place) (i ∷ n ∷ [])
     own_clash : {j : _} {n : PlacedName} {i d : _} → Contains (judgements_of m) j → Contains (placed_names j) n →
         GivesOf (sort_of j) m n.name i d → BreaksHeader named m R.InheritClash n (i ∷ header_name m.header ∷ [])
-    not_incomplete : {f ss : _} {o : Module} → IsWith m f ss → Is mods (inherited_name f) o → is_incomplete o.header ≡ false →
-        BreaksHeader named m R.NotIncomplete (inherited_at f) []
-    without_substitution : {f ss I : _} → IsWith m f ss → Parameter (inherited_name f) I →
+    not_incomplete : {f ss : _} {o : Module} → functor_of m.rest ≡ Some (f, ss) → Is mods (inherited_name f) o →
+        is_incomplete o.header ≡ false → BreaksHeader named m R.NotIncomplete (inherited_at f) []
+    without_substitution : {f ss I : _} → functor_of m.rest ≡ Some (f, ss) → Parameter (inherited_name f) I →
         ((s : Substitution) → Contains ss s → s.interface.name ≢ I) →
         BreaksHeader named m R.ParameterUnmatched (name_at I (inherited_at f).place) []
-    no_parameter : {f ss : _} {s : Substitution} → IsWith m f ss → Contains ss s →
+    no_parameter : {f ss : _} {s : Substitution} → functor_of m.rest ≡ Some (f, ss) → Contains ss s →
         ¬ (Parameter (inherited_name f) s.interface.name) → BreaksHeader named m R.ParameterUnmatched s.interface []
-    no_instance : {f ss : _} {s : Substitution} → IsWith m f ss → Contains ss s →
+    no_instance : {f ss : _} {s : Substitution} → functor_of m.rest ≡ Some (f, ss) → Contains ss s →
         ¬ (IsInstanceOf s.instance.name s.interface.name) → BreaksHeader named m R.ParameterUnmatched s.instance []
     instance_lacks : {n i : PlacedName} {x d j : _} → m.header ≡ Instance n i → Has mods i.name x d → Writes mods d j →
         is_undefined j ≡ true → ((e : Declared) → ¬ (HasNameable mods n.name x e)) →

@@ -226,16 +226,17 @@ module _ (mods : List Module) where
     pub writes : Writes d text
     pub nameable : sort_of text ≡ None
 
-  -- a module that is opened under a name
-  abbrev pub OpensAs : Module → List ℕ → List ℕ → Type 0
-  OpensAs m Q N = (o : Opened) × Contains (opened_of m) o × Contains (opened_names o) Q × ((opened_at o).name ≡ N)
+  -- what an opened module offers for x, where the module itself has nothing, or for Q.x
+  pub data Offers (m : Module) (x : List ℕ) : Option (List ℕ) → PlacedName → Declared → Type 0 where
+    for_bare : {n : PlacedName} {d : _} → Contains (opened_of m) (Plain n) →
+        ((e : Declared) → ¬ (HasNameable (header_name m.header).name x e)) → HasNameable n.name x d → Offers m x None n d
+    for_qualified : {Q o d : _} → Contains (opened_of m) o → Contains (opened_names o) Q → HasNameable (opened_at o).name x d →
+        Offers m x (Some Q) (opened_at o) d
 
   -- what x, or Q.x, means in a module, where no local variable is called x, or Q
   pub data Sees : List ℕ → Option (List ℕ) → List ℕ → Declared → Type 0 where
     at_home : {M x d : _} → HasNameable M x d → Sees M None x d
-    from_opened : {M x m : _} {n : PlacedName} {d : _} → Is M m → ((e : Declared) → ¬ (HasNameable M x e)) →
-        Contains (opened_of m) (Plain n) → HasNameable n.name x d → Sees M None x d
-    from_named : {M Q N x m d : _} → Is M m → OpensAs m Q N → HasNameable N x d → Sees M (Some Q) x d
+    from_opened : {M m q x n d : _} → Is M m → Offers m x q n d → Sees M q x d
 
   -- what the instances of a with give for a constant of an interface under a name: the first interface that
   -- has it counts

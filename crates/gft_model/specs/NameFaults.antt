@@ -6,7 +6,6 @@ use Rattle.gft_rules.specs.declared.rule.Rule.TheVariants as R
 use Rattle.gft_syntax.specs.declared.judgement.Judgement.{Judgement}
 use Rattle.gft_syntax.specs.declared.judgement.Judgement.TheVariants as J
 use Rattle.gft_syntax.specs.declared.module.Module.{Module}
-use Rattle.gft_syntax.specs.declared.module.Opened.TheVariants.{Plain}
 use Rattle.gft_syntax.specs.declared.pattern.Pattern.{Pattern, out-Pattern}
 use Rattle.gft_syntax.specs.declared.pattern.Pattern.TheOpen as P
 use Rattle.gft_syntax.specs.declared.pattern.Pattern.TheFolds.{fold-Pattern}
@@ -20,7 +19,7 @@ use Rattle.gft_syntax.specs.Parts.{Part as TermPart, parts, pattern_parts, patte
 use Rattle.gft_model.specs.Flats.{IsConstructor, IsOf}
 use Rattle.gft_model.specs.HeaderFaults.{IsBuiltIn, Clash}
 use Rattle.gft_model.specs.JudgementTyping.{list_name}
-use Rattle.gft_model.specs.Modules.{is_abstract, placed_names, sort_of, opened_at, opened_names, HasNameable, Writes, OpensAs, Sees, Declared, header_name, header_mentions, judgements_of, opened_of, names_of}
+use Rattle.gft_model.specs.Modules.{is_abstract, placed_names, sort_of, opened_names, Writes, Offers, Sees, Declared, header_name, header_mentions, judgements_of, opened_of, names_of}
 use Rattle.gft_model.specs.Refusals.{name_at}
 use Rattle.gft_model.specs.Resolution.{Locals, is_local}
 use Rattle.gft_model.specs.TypeForms.{predef_named}
@@ -56,16 +55,9 @@ module _ (mods : List Module) (m : Module) where
   MeansConstructor xs q x = (is_local (unwrap_or q x) xs ≡ false) × (d : Declared) × (j : Judgement) × Sees mods own_name q x d
       × Writes mods d j × IsConstructor j x
 
-  -- an opened module gives a judgement for x, where the module itself has none, or for Q.x
-  pub data Gives (x : List ℕ) : Option (List ℕ) → PlacedName → Declared → Type 0 where
-    for_bare : {n d : _} → Contains (opened_of m) (Plain n) → ((e : Declared) → ¬ (HasNameable mods own_name x e)) →
-        HasNameable mods n.name x d → Gives x None n d
-    for_qualified : {Q o d : _} → Contains (opened_of m) o → Contains (opened_names o) Q →
-        HasNameable mods (opened_at o).name x d → Gives x (Some Q) (opened_at o) d
-
   -- the module opens another under that name
   abbrev pub Opens : List ℕ → Type 0
-  Opens Q = (N : List ℕ) × OpensAs mods m Q N
+  Opens Q = Contains (flat_map opened_names (opened_of m)) Q
 
   -- the test says of each bare name whether it means a constructor
   abbrev pub AreConstructors : (List ℕ → Bool) → Type 0
@@ -116,10 +108,10 @@ module _ (mods : List Module) (m : Module) where
           BreaksNames R.Unknown (name_at w p) []
       abstract_lacks : {j A : _} {n : PlacedName} → Contains (judgements_of m) j → Contains (placed_names j) n →
           sort_of j ≢ None → Contains (header_mentions m.header) A → ¬ (IsOf mods A.name n.name j) → BreaksNames R.Unknown n []
-      ambiguous_use : {q one other : _} {n : PlacedName} → Uses q n → Clash (Gives n.name q) one other →
+      ambiguous_use : {q one other : _} {n : PlacedName} → Uses q n → Clash (Offers mods m n.name q) one other →
           BreaksNames R.Ambiguous n (one ∷ other ∷ [])
       ambiguous_constructor : {xs b q x p one other : _} → InPattern xs b q x p → MeansConstructor xs q x →
-          Clash (Gives x q) one other → BreaksNames R.Ambiguous (name_at x p) (one ∷ other ∷ [])
+          Clash (Offers mods m x q) one other → BreaksNames R.Ambiguous (name_at x p) (one ∷ other ∷ [])
       bound_twice : {xs p : _} (before after : List PlacedName) {n : PlacedName} → HasPattern xs p →
           bound_in is_constructor xs p ≡ before ++ n ∷ after → Contains (names_of before) n.name →
           BreaksNames R.PatternVars n []
