@@ -27,7 +27,7 @@ use Rattle.gft_model.proofs.GrammarRules.{ruled}
 use Rattle.gft_model.proofs.GrammarTable.{tabled}
 use Rattle.gft_model.specs.ModuleGrammar.{SpellsJudgement, SpellsSlice, with_keyword, goes_on, slice, no_slice, keyword_word, category, function, linearization}
 use Rattle.gft_model.specs.Refusals.{refusal}
-use Rattle.gft_model.specs.Source.{lexeme_at, longest, token, nothing}
+use Rattle.gft_model.specs.Source.{lexeme_at, longest, blank, token, nothing}
 use Rattle.gft_model.specs.SyntaxFaults
 use Rattle.gft_model.specs.TokenFaults
 
@@ -61,16 +61,21 @@ semicolon = codes ";"
 token_there : lexeme_at semicolon ≡ token (Symbol S.Semicolon) 1
 token_there = refl
 
-step_from : {cs : List ℕ} {n : ℕ} → (cs ≡ semicolon) ⊎ (cs ≡ []) → TokenFaults.length_of (lexeme_at cs) ≡ Some n →
-    (drop n cs ≡ semicolon) ⊎ (drop n cs ≡ [])
-step_from {cs} {n} (inl q) e =
-    let f : Some 1 ≡ Some n = subst (λ ds. TokenFaults.length_of (lexeme_at ds) ≡ Some n) q e in
-    let m : 1 ≡ n = cc in inr (subst (λ k. drop k cs ≡ []) m (ap (drop 1) q))
-step_from {cs} {n} (inr q) e = let f : None ≡ Some n = subst (λ ds. TokenFaults.length_of (lexeme_at ds) ≡ Some n) q e in cc
+after_it : {cs : List ℕ} {t : TokenForm} {n : ℕ} → (cs ≡ semicolon) ⊎ (cs ≡ []) → lexeme_at cs ≡ token t n → drop n cs ≡ []
+after_it {cs} {t} {n} (inl q) e =
+    let f : token (Symbol S.Semicolon) 1 ≡ token t n = subst (λ ds. lexeme_at ds ≡ token t n) q e in
+    let m : 1 ≡ n = cc in subst (λ k. drop k cs ≡ []) m (ap (drop 1) q)
+after_it {cs} {t} {n} (inr q) e = let f : nothing ≡ token t n = subst (λ ds. lexeme_at ds ≡ token t n) q e in cc
+
+no_blank : {cs : List ℕ} {n : ℕ} → (cs ≡ semicolon) ⊎ (cs ≡ []) → lexeme_at cs ≡ blank n → ⊥
+no_blank {n = n} (inl q) e =
+    let f : token (Symbol S.Semicolon) 1 ≡ blank n = subst (λ ds. lexeme_at ds ≡ blank n) q e in cc
+no_blank {n = n} (inr q) e = let f : nothing ≡ blank n = subst (λ ds. lexeme_at ds ≡ blank n) q e in cc
 
 begins_at : {p : Place} {cs : List ℕ} → TokenFaults.Begins 0 semicolon p cs → (cs ≡ semicolon) ⊎ (cs ≡ [])
 begins_at TokenFaults.at_start = inl refl
-begins_at (TokenFaults.after_lexeme b e) = step_from (begins_at b) e
+begins_at (TokenFaults.after_blank b e) = absurd (no_blank (begins_at b) e)
+begins_at (TokenFaults.after_token b e) = inr (after_it (begins_at b) e)
 
 head_is : {c : ℕ} {cs : List ℕ} → (c ∷ cs ≡ semicolon) ⊎ (c ∷ cs ≡ []) → (c ≡ 59) × (cs ≡ [])
 head_is (inl q) = (cc, cc)

@@ -16,7 +16,7 @@ use Rattle.gft_syntax.specs.declared.token.SourceToken.{SourceToken}
 use Rattle.gft_syntax.specs.declared.token.TokenForm.{TokenForm}
 use Rattle.gft_syntax.specs.declared.token.TokenForm.TheVariants.{Quoted, Number}
 use Rattle.gft_model.specs.Source.{Tokens, Lexeme, blank, token, nothing, lexeme_at, longest, longest_from, form_of, token_lexeme, block_length, escaped, quoted_text, escape_text, tokens_from, in_range, after, first_place}
-use Rattle.gft_model.specs.TokenFaults.{BreaksTokens, Begins, at_start, after_lexeme, not_utf8, bad_character, open_string, bad_escape, open_comment, number_too_large, text_of, loose, moved, length_of, Inside, here, plain, escape, IsClosed}
+use Rattle.gft_model.specs.TokenFaults.{BreaksTokens, Begins, at_start, after_blank, after_token, not_utf8, bad_character, open_string, bad_escape, open_comment, number_too_large, text_of, loose, moved, Inside, here, plain, escape, IsClosed}
 
 true_of_and : (a b : Bool) → (a && b) ≡ true → (a ≡ true) × (b ≡ true)
 true_of_and true b e = (refl, e)
@@ -135,32 +135,37 @@ mapped t (Some vs) us e r =
     let both = true_of_and (in_range t) (list_all in_range vs) (subst (λ x. list_all in_range x ≡ true) same r) in
     (vs, refl, both.1, both.0)
 
-good_next : (l : Lexeme) (n : ℕ) (p : Place) (c : ℕ) (cs : List ℕ) (us : List SourceToken) → length_of l ≡ Some n → Long l
-    → reading l p c cs ≡ Some us → list_all in_range us ≡ true → Good (moved n p (c ∷ cs)) (drop n (c ∷ cs))
-good_next nothing n p c cs us h k e r = let wrong : None ≡ Some n = h in cc
-good_next (blank zero) n p c cs us h k e r = absurd (omega (arith, k))
-good_next (blank (suc m)) n p c cs us h k e r =
-    let same : suc m ≡ n = cc in
+good_next : (m n : ℕ) (p : Place) (c : ℕ) (cs : List ℕ) (us : List SourceToken) → suc m ≡ n
+    → tokens_from (suc m - 1) (after c p) cs ≡ Some us → list_all in_range us ≡ true
+    → Good (moved n p (c ∷ cs)) (drop n (c ∷ cs))
+good_next m n p c cs us same e r =
     let less : tokens_from (suc m - 1) (after c p) cs ≡ tokens_from m (after c p) cs =
     ap (λ x. tokens_from x (after c p) cs) (one_less m) in
     subst (λ x. Good (moved x p (c ∷ cs)) (drop x (c ∷ cs))) same (us, sym (tokens_moved m (after c p) cs) ∙ sym less ∙ e, r)
-good_next (token t zero) n p c cs us h k e r = absurd (omega (arith, k))
-good_next (token t (suc m)) n p c cs us h k e r =
-    let same : suc m ≡ n = cc in
+
+good_blank : (n : ℕ) (p : Place) (c : ℕ) (cs : List ℕ) (us : List SourceToken) → Long (blank n)
+    → reading (blank n) p c cs ≡ Some us → list_all in_range us ≡ true → Good (moved n p (c ∷ cs)) (drop n (c ∷ cs))
+good_blank zero p c cs us k e r = absurd (omega (arith, k))
+good_blank (suc m) p c cs us k e r = good_next m (suc m) p c cs us refl e r
+
+good_token : (t : TokenForm) (n : ℕ) (p : Place) (c : ℕ) (cs : List ℕ) (us : List SourceToken) → Long (token t n)
+    → reading (token t n) p c cs ≡ Some us → list_all in_range us ≡ true → Good (moved n p (c ∷ cs)) (drop n (c ∷ cs))
+good_token t zero p c cs us k e r = absurd (omega (arith, k))
+good_token t (suc m) p c cs us k e r =
     let parts = mapped (record { form = t; place = p }) (tokens_from (suc m - 1) (after c p) cs) us e r in
-    let less : tokens_from (suc m - 1) (after c p) cs ≡ tokens_from m (after c p) cs =
-    ap (λ x. tokens_from x (after c p) cs) (one_less m) in
-    subst (λ x. Good (moved x p (c ∷ cs)) (drop x (c ∷ cs))) same
-    (parts.0, sym (tokens_moved m (after c p) cs) ∙ sym less ∙ parts.1, parts.2)
+    good_next m (suc m) p c cs parts.0 refl parts.1 parts.2
 
 good_at : {file : ℕ} {text : List ℕ} {ts : List SourceToken} {p : Place} {cs : List ℕ} → Begins file text p cs
     → tokens_from 0 (first_place file) text ≡ Some ts → list_all in_range ts ≡ true → Good p cs
 good_at {ts} at_start e r = (ts, e, r)
-good_at (after_lexeme {cs = []} b h) e r = cc
-good_at (after_lexeme {p} {cs = c ∷ cs} {n} b h) e r =
+good_at (after_blank {cs = []} {n} b h) e r = let wrong : nothing ≡ blank n = h in cc
+good_at (after_blank {p} {cs = c ∷ cs} {n} b h) e r =
     let good = good_at b e r in
-    good_next (lexeme_at (c ∷ cs)) n p c cs good.0 h (long_at (c ∷ cs))
-    (sym (read_here p c cs (lexeme_at (c ∷ cs)) refl) ∙ good.1) good.2
+    good_blank n p c cs good.0 (subst Long h (long_at (c ∷ cs))) (sym (read_here p c cs (blank n) h) ∙ good.1) good.2
+good_at (after_token {cs = []} {t} {n} b h) e r = let wrong : nothing ≡ token t n = h in cc
+good_at (after_token {p} {cs = c ∷ cs} {t} {n} b h) e r =
+    let good = good_at b e r in
+    good_token t n p c cs good.0 (subst Long h (long_at (c ∷ cs))) (sym (read_here p c cs (token t n) h) ∙ good.1) good.2
 
 -- nothing but a lexeme begins there
 nowhere : (p : Place) (c : ℕ) (cs : List ℕ) → Good p (c ∷ cs) → lexeme_at (c ∷ cs) ≡ nothing → ⊥

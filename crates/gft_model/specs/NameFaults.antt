@@ -47,6 +47,7 @@ pub data IsName (e : Term) : Type 0 where
       IsName e
 
 module _ (mods : List Module) (m : Module) where
+  -- the name of the module
   abbrev own_name : List ℕ
   own_name = (header_name m.header).name
 

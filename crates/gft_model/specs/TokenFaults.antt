@@ -1,5 +1,5 @@
 -- Faults of a file's characters: where something is neither white space, nor a comment, nor a token.
-use Rattle.std.specs.Prelude.{◌≡◌, ℕ, zero, suc, ◌+◌, ◌^◌, ◌<◌, ◌≤◌, List, [], ◌∷◌, ◌++◌, map, take, drop, length, false, nat_lt, chars, encode_utf8_all, Option, Some, None, if◌then◌else◌, ◌≢◌}
+use Rattle.std.specs.Prelude.{◌≡◌, ℕ, zero, suc, ◌+◌, ◌^◌, ◌<◌, ◌≤◌, List, [], ◌∷◌, ◌++◌, map, take, drop, length, false, nat_lt, chars, encode_utf8_all, None, if◌then◌else◌, ◌≢◌}
 use Rattle.std.specs.Char.{is_whitespace}
 use Rattle.std.specs.Str.Lossy.{utf8_valid_len}
 use Rattle.gft_core.specs.declared.place.Place.{Place}
@@ -7,7 +7,7 @@ use Rattle.gft_rules.specs.declared.refusal.Refusal.{Refusal}
 use Rattle.gft_rules.specs.declared.rule.Rule.TheVariants as R
 use Rattle.gft_syntax.specs.declared.token.TokenForm.TheVariants.{Number}
 use Rattle.gft_model.specs.Refusals.{refusal}
-use Rattle.gft_model.specs.Source.{Lexeme, blank, token, nothing, lexeme_at, longest, block_length, escaped, after, first_place}
+use Rattle.gft_model.specs.Source.{blank, token, lexeme_at, longest, block_length, escaped, after, first_place}
 
 -- past all characters: what a byte stands as that begins none
 abbrev pub no_character : ℕ
@@ -26,17 +26,11 @@ moved zero p cs = p
 moved (suc n) p [] = p
 moved (suc n) p (c ∷ cs) = moved n (after c p) cs
 
--- how many characters the lexeme has, where there is one
-abbrev pub length_of : Lexeme → Option ℕ
-length_of (blank n) = Some n
-length_of (token t n) = Some n
-length_of nothing = None
-
 -- white space, a comment or a token may begin at the place, and these characters are there
 pub data Begins (file : ℕ) (text : List ℕ) : Place → List ℕ → Type 0 where
   at_start : Begins file text (first_place file) text
-  after_lexeme : {p cs n : _} → Begins file text p cs → length_of (lexeme_at cs) ≡ Some n →
-      Begins file text (moved n p cs) (drop n cs)
+  after_blank : {p cs n : _} → Begins file text p cs → lexeme_at cs ≡ blank n → Begins file text (moved n p cs) (drop n cs)
+  after_token : {p cs t n : _} → Begins file text p cs → lexeme_at cs ≡ token t n → Begins file text (moved n p cs) (drop n cs)
 
 -- in a text one comes from the first place to the second, past no quote and no end of the line; a backslash goes with what
 -- is after it
