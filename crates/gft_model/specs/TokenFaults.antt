@@ -1,5 +1,5 @@
 -- Faults of a file's characters: where something is neither white space, nor a comment, nor a token.
-use Rattle.std.specs.Prelude.{◌≡◌, ℕ, zero, suc, ◌+◌, ◌^◌, ◌<◌, ◌≤◌, List, [], ◌∷◌, ◌++◌, map, take, drop, length, false, nat_lt, chars, encode_utf8_all, None, if◌then◌else◌, ◌≢◌}
+use Rattle.std.specs.Prelude.{◌≡◌, ℕ, zero, suc, ◌+◌, ◌^◌, ◌<◌, ◌≤◌, List, [], ◌∷◌, ◌++◌, map, fold, take, drop, length, false, nat_lt, chars, encode_utf8_all, None, if◌then◌else◌, ◌≢◌}
 use Rattle.std.specs.Char.{is_whitespace}
 use Rattle.std.specs.Str.Lossy.{utf8_valid_len}
 use Rattle.gft_core.specs.declared.place.Place.{Place}
@@ -22,9 +22,7 @@ text_of bytes = let n = utf8_valid_len bytes in chars (take n bytes) ++ map loos
 
 -- the place after so many of the characters
 abbrev pub moved : ℕ → Place → List ℕ → Place
-moved zero p cs = p
-moved (suc n) p [] = p
-moved (suc n) p (c ∷ cs) = moved n (after c p) cs
+moved n p cs = fold (λ q c. after c q) p (take n cs)
 
 -- white space, a comment or a token may begin at the place, and these characters are there
 pub data Begins (file : ℕ) (text : List ℕ) : Place → List ℕ → Type 0 where
