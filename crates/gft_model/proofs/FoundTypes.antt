@@ -1,5 +1,5 @@
 -- A term has at most one found type, and at most one typed term that it means.
-use Rattle.std.proofs.Common.{◌≡◌, ap, sym, ◌∙◌, subst, refl, ℕ, List, [], ◌∷◌, Some, None, true, false, ◌==◌, rules}
+use Rattle.std.proofs.Common.{◌≡◌, ap, sym, ◌∙◌, subst, refl, ℕ, List, [], ◌∷◌, Option, Some, None, true, false, ◌==◌, rules}
 use Rattle.std.specs.List.{list_all}
 use Rattle.std.specs.Option.{is_some}
 use Rattle.std.specs.Prelude.{Bool, ◌&&◌}
@@ -18,7 +18,7 @@ use Rattle.gft_syntax.specs.declared.term.Term.{Term}
 use Rattle.gft_syntax.specs.declared.term.Term.TheOpen as F
 use Rattle.gft_syntax.specs.Parts.{is_value}
 use Rattle.gft_model.specs.ConcreteTypes.{record_in, table_in, IsSubtype, equal, fewer_labels, tables, numbers, functions}
-use Rattle.gft_model.specs.ConcreteTyping.{is_term_first, is_table_expression, passes, Spine, applied_to, at_head, Fits, same, cut, sort, IsType, IsData, an_overload, Stands, Takes, takes_none, takes, Suits, suits_by, Chosen, parameter_of, AreLabels, no_label, label, text_type, type_of_types, type_of_parameters, numbers_to, labels, table_over, function_from, pair_of, parameters_named, oper_named, definition_named, with_names, with_lets, Finds, Checks, FindsAll, none_found, next_found, MembersFind, first_member, MembersCheck, no_member, member, BranchesFind, first_branch, BranchesCheck, no_branch, branch, FieldsHave, no_field, value_given, value_found, typed_given, typed_alone, Defines, no_local, local, typed_local, variable, constructor_name, typed_oper, untyped_oper, alternative_alone, parameter_name, literal, append, glue, number, predef, projection, application, overloaded, selection, branch_over, branch_of, item_of, case_found, table_found, list_found, record_found, extension, typed, let_found, variants_found, lambda, table_lambda, branches, branches_over, listed, record_given, let_given, case_given, variants_given, empty_type, parameter_given, found, type_form}
+use Rattle.gft_model.specs.ConcreteTyping.{is_term_first, is_table_expression, passes, Spine, applied_to, at_head, Fits, same, cut, sort, IsType, IsData, an_overload, Stands, Takes, takes_none, takes, Suits, suits_by, Chosen, parameter_of, AreLabels, no_label, label, text_type, type_of_types, type_of_parameters, numbers_to, labels, table_over, function_from, pair_of, parameters_named, oper_named, definition_named, with_names, with_lets, Finds, Checks, FindsAll, none_found, next_found, MembersFind, first_member, MembersCheck, no_member, member, BranchesFind, first_branch, BranchesCheck, no_branch, branch, FieldsHave, no_field, value_given, value_found, typed_given, typed_alone, Defines, no_local, local, typed_local, variable, constructor_name, typed_oper, untyped_oper, parameter_name, literal, append, glue, number, predef, projection, application, overloaded, selection, branch_over, branch_of, item_of, case_found, table_found, list_found, record_found, extension, typed, let_found, variants_found, lambda, table_lambda, branches, listed, record_given, let_given, case_given, variants_given, empty_type, parameter_given, found, type_form}
 use Rattle.gft_model.specs.Items.{Item}
 use Rattle.gft_model.specs.PatternTyping.{Scope}
 use Rattle.gft_model.specs.TypeForms.{form, record_type}
@@ -42,8 +42,7 @@ tag (F.Glue a b p) = 8
 tag (F.Select a b p) = 9
 tag (F.Extend a b p) = 10
 tag (F.Pair a b p) = 11
-tag (F.TableOf None b p) = 12
-tag (F.TableOf (Some a) b p) = 13
+tag (F.TableOf a b p) = 12
 tag (F.TableList a b p) = 14
 tag (F.App a b p) = 15
 tag (F.CaseOf a b p) = 16
@@ -71,18 +70,11 @@ pub apart-tags : (m n : ℕ) → (m == n) ≡ false → m ≡ n → ⊥
 apart-tags m n h e = apart (sym h ∙ (ap (λ (k : ℕ). m == k) (sym e) ∙ eq-self m))
 
 -- an application taken apart, in one way
-spine_is_app : {e f a : Term} {es : List Term} → Spine e [] f (a ∷ es) → (g : Term) × (b : Term) × (p : Place) × (form e ≡ F.App g b p)
-spine_is_app (applied_to {f = g} {a = b} {place = p} h s) = (g, b, p, h)
-
 pub spine-once : {e d f g : Term} {es ds xs ys : List Term} → Spine e es f xs → Spine d ds g ys → e ≡ d → es ≡ ds → (f ≡ g) × (xs ≡ ys)
 spine-once (applied_to h s) (applied_to k r) e f = spine-once s r (cc) (cc)
 spine-once (applied_to h s) (at_head n) e f = absurd (n _ _ _ (ap form (sym e) ∙ h))
 spine-once (at_head n) (applied_to k r) e f = absurd (n _ _ _ (ap form e ∙ k))
 spine-once (at_head n) (at_head m) e f = (e, f)
-
-spine_ints : {e f a g b : Term} {es : List Term} {p q : Place} → Spine e [] f (a ∷ es) → form e ≡ F.App g b p → form g ≡ F.Sort Sort.Ints q → form f ≡ F.Sort Sort.Ints q
-spine_ints (applied_to h (applied_to k s)) e i = cc
-spine_ints (applied_to h (at_head n)) e i = cc
 
 apart-tables : {e f a b c d : Term} {p q : Place} → form e ≡ F.Select a b p → form f ≡ F.Select c d q → e ≡ f → is_table_expression (form a) ≡ false → is_table_expression (form c) ≡ true → ⊥
 apart-tables h k e i j = cc
@@ -149,6 +141,10 @@ record-passes ls p T h k = ap (λ (b : Bool). b && is_some (record_in (out-CType
 
 table-passes : (T : CType) {P V : CType} → out-CType T ≡ C.Table P V → is_some (table_in (out-CType T)) ≡ true
 table-passes T h = ap (λ (d : C.CType-F CType). is_some (table_in d)) h
+
+branches-pass : (D : Option Term) (cs : List (Case Term)) (p : Place) (T : CType) {P V : CType} → out-CType T ≡ C.Table P V → passes (F.TableOf D cs p) (out-CType T) ≡ true
+branches-pass None cs p T h = refl
+branches-pass (Some d) cs p T h = table-passes T h
 
 same-names : {xs ys : List (List ℕ)} {T U : CType} {Γ Δ : Scope} → xs ≡ ys → T ≡ U → Γ ≡ Δ → with_names xs T Γ ≡ with_names ys U Δ
 same-names {ys = ys} {T = T} {U = U} {Γ = Γ} e f g =
@@ -218,9 +214,9 @@ module _ (items : List Item) where
   no-mix (label a b c) (typed_given x y z w v) e = cc
   no-mix (label a b c) (typed_alone x y z w v) e = cc
 
-  no_ints_var : {e d f a : Term} {es : List Term} {T : CType} {w : Whole} {p : Place} → Spine e [] f (a ∷ es) → form f ≡ F.Var (WholeName w) p → IsType items d T → e ≡ d → ⊥
-  no_ints_var s h t e =
-      let x = spine_is_app s in let i = ints_head t (ap form (sym e) ∙ x.3) in let j = spine_ints s x.3 i.1 in cc
+  no_ints_var : {e d f g a : Term} {es xs : List Term} {T : CType} {w : Whole} {p q : Place} → form e ≡ F.App f a q → Spine f es g xs → form g ≡ F.Var (WholeName w) p → IsType items d T → e ≡ d → ⊥
+  no_ints_var k (applied_to m s) h t e = let i = ints_head t (ap form (sym e) ∙ k) in let j = i.1 in cc
+  no_ints_var k (at_head n) h t e = let i = ints_head t (ap form (sym e) ∙ k) in let j = i.1 in cc
 
   no_record : {Γ : Scope} {e d : Term} {T : CType} {ls : List (Local Term)} {p : Place} {gs fs : List (List ℕ × CType)} {ts : List (List ℕ × LinTerm)} →
       form e ≡ F.Fields ls p → FieldsHave items Γ gs ls fs ts → is_term_first (form d) ≡ false → IsType items d T → e ≡ d → ⊥
@@ -251,7 +247,7 @@ module _ (items : List Item) where
   form_of (constructor_name {c = c} {p = p} a0 a1 a2 a3) = F.Var (WholeName c) p
   form_of (typed_oper {w = w} k {p = p} a0 a1 a2) = F.Var (WholeName w) p
   form_of (untyped_oper {w = w} k {p = p} a0 a1 a2) = F.Var (WholeName w) p
-  form_of (alternative_alone {w = w} k {p = p} a0 a1 a2) = F.Var (WholeName w) p
+  form_of (overloaded {w = w} k {p = p} (at_head n) a1 a2 a3 a4) = F.Var (WholeName w) p
   form_of (parameter_name {w = w} {p = p} a0 a1) = F.Var (WholeName w) p
   form_of (literal {text = s} {p = p} a0) = F.Lit s p
   form_of (append {a = a} {b = b} {p = p} a0 a1 a2) = F.Concat a b p
@@ -260,7 +256,7 @@ module _ (items : List Item) where
   form_of (predef {f = f} {x = x} {p = p} a0 a1 a2) = F.Proj f x p
   form_of (projection {r = f} {x = x} {p = p} a0 a1 a2 a3) = F.Proj f x p
   form_of (application {f = f} {a = a} {p = p} a0 a1 a2 a3) = F.App f a p
-  form_of (overloaded k a0 a1 a2 a3 a4) = let x = spine_is_app a0 in F.App x.0 x.1 x.2
+  form_of (overloaded k (applied_to {f = f} {a = a} {place = p} h s) a1 a2 a3 a4) = F.App f a p
   form_of (selection {a = a} {b = b} {p = p} a0 a1 a2 a3 a4) = F.Select a b p
   form_of (branch_over {a = a} {b = b} {p = p} a0 a1 a2 a3 a4 a5) = F.Select a b p
   form_of (branch_of {a = a} {b = b} {p = p} a0 a1 a2 a3 a4) = F.Select a b p
@@ -280,7 +276,7 @@ module _ (items : List Item) where
   form_is (constructor_name a0 a1 a2 a3) = a0
   form_is (typed_oper k a0 a1 a2) = a0
   form_is (untyped_oper k a0 a1 a2) = a0
-  form_is (alternative_alone k a0 a1 a2) = a0
+  form_is (overloaded k (at_head n) a1 a2 a3 a4) = a1
   form_is (parameter_name a0 a1) = a0
   form_is (literal a0) = a0
   form_is (append a0 a1 a2) = a0
@@ -289,7 +285,7 @@ module _ (items : List Item) where
   form_is (predef a0 a1 a2) = a0
   form_is (projection a0 a1 a2 a3) = a0
   form_is (application a0 a1 a2 a3) = a0
-  form_is (overloaded k a0 a1 a2 a3 a4) = (spine_is_app a0).3
+  form_is (overloaded k (applied_to h s) a1 a2 a3 a4) = h
   form_is (selection a0 a1 a2 a3 a4) = a0
   form_is (branch_over a0 a1 a2 a3 a4 a5) = a0
   form_is (branch_of a0 a1 a2 a3 a4) = a0
@@ -325,6 +321,8 @@ module _ (items : List Item) where
 
   sort-found : {Γ : Scope} {e : Term} {T : CType} {t : LinTerm} → Finds items Γ e T t → is_written_sort (form e) ≡ true
   sort-found (type_form a0 a1) = sort-type a1
+  sort-found (overloaded k (applied_to h s) a1 a2 a3 a4) = ap is_written_sort h
+  sort-found (overloaded k (at_head n) a1 a2 a3 a4) = ap is_written_sort a1
   sort-found d = ap is_written_sort (form_is d)
 
   no-sort-found : {Γ : Scope} {e : Term} {T : CType} {t : LinTerm} {l : F.Term-F Term} → Finds items Γ e T t → form e ≡ l → is_written_sort l ≡ false → ⊥
@@ -346,7 +344,6 @@ module _ (items : List Item) where
   overload-found (application a0 a1 a2 a3) (applied_to k s) q h o e = overload-found a1 s (cc) h o a2
   overload-found (application a0 a1 a2 a3) (at_head n) q h o e = n _ _ _ (ap form (sym q) ∙ a0)
   overload-found (overloaded k a0 a1 a2 a3 a4) s q h o e = suited-data a4.suits _ _ e
-  overload-found (alternative_alone k a0 a1 a2) s q h o e = suited-data a2.suits _ _ e
   overload-found (constructor_name a0 a1 a2 a3) (applied_to k s) q h o e = cc
   overload-found (constructor_name a0 a1 a2 a3) (at_head n) q h o e = cc
   overload-found (typed_oper m a0 a1 a2) (applied_to k s) q h o e = cc
@@ -358,15 +355,19 @@ module _ (items : List Item) where
   overload-found d (applied_to k s) q h o e = apart-tags _ _ refl (ap tag (sym k ∙ ap form (sym q) ∙ form_is d))
   overload-found d (at_head n) q h o e = apart-tags _ _ refl (ap tag (sym h ∙ ap form (sym q) ∙ form_is d))
 
-  applies-none : {Γ : Scope} {e d f b h a : Term} {es : List Term} {p r : Place} {w : Whole} {S A B : CType} {t : LinTerm} →
-      Spine e [] h (a ∷ es) → form d ≡ F.App f b p → e ≡ d → Finds items Γ f S t → out-CType S ≡ C.Fun A B → form h ≡ F.Var (WholeName w) r → Stands items w an_overload → ⊥
-  applies-none (applied_to k s) l q d f h o = overload-found d s (cc) h o f
+  -- an overload is a name or an application
+  not-overload : {e d h : Term} {es xs : List Term} {w : Whole} {p : Place} {l : F.Term-F Term} → Spine d es h xs → form h ≡ F.Var (WholeName w) p → form e ≡ l → e ≡ d → (tag l == 15) ≡ false → (tag l == 20) ≡ false → ⊥
+  not-overload {l = l} (applied_to k s) h a q m n = apart-tags (tag l) 15 m (same-tag a q k)
+  not-overload {l = l} (at_head k) h a q m n = apart-tags (tag l) 20 n (same-tag a q h)
+
+  applies-none : {Γ : Scope} {e d f b c h a : Term} {es xs : List Term} {p q r : Place} {w : Whole} {S A B : CType} {t : LinTerm} →
+      form e ≡ F.App c a q → Spine c es h xs → form d ≡ F.App f b p → e ≡ d → Finds items Γ f S t → out-CType S ≡ C.Fun A B → form h ≡ F.Var (WholeName w) r → Stands items w an_overload → ⊥
+  applies-none k s l q d f h o = overload-found d s (cc) h o f
 
   abbrev pub check_form : {Γ : Scope} {e : Term} {T : CType} {t : LinTerm} → Checks items Γ e T t → F.Term-F Term
   check_form (lambda {b = b} {x = x} {p = p} a0 a1 a2) = F.Fun (x ∷ []) b p
   check_form (table_lambda {b = b} {x = x} {p = p} a0 a1 a2) = F.TabFun (x ∷ []) b p
-  check_form (branches {cs = cs} {p = p} a0 a1 a2 a3) = F.TableOf None cs p
-  check_form (branches_over {D = D} {cs = cs} {p = p} a0 a1 a2 a3 a4) = F.TableOf (Some D) cs p
+  check_form (branches {D = D} {cs = cs} {p = p} a0 a1 a2 a3 a4) = F.TableOf D cs p
   check_form (listed {D = D} {es = es} {p = p} a0 a1 a2 a3 a4) = F.TableList D es p
   check_form (record_given {ls = ls} {p = p} a0 a1 a2 a3) = F.Fields ls p
   check_form (let_given {b = b} {ls = ls} {p = p} a0 a1 a2) = F.Let ls b p
@@ -379,8 +380,7 @@ module _ (items : List Item) where
   pub check_form_is : {Γ : Scope} {e : Term} {T : CType} {t : LinTerm} (d : Checks items Γ e T t) → form e ≡ check_form d
   check_form_is (lambda a0 a1 a2) = a0
   check_form_is (table_lambda a0 a1 a2) = a0
-  check_form_is (branches a0 a1 a2 a3) = a0
-  check_form_is (branches_over a0 a1 a2 a3 a4) = a0
+  check_form_is (branches a0 a1 a2 a3 a4) = a0
   check_form_is (listed a0 a1 a2 a3 a4) = a0
   check_form_is (record_given a0 a1 a2 a3) = a0
   check_form_is (let_given a0 a1 a2) = a0
@@ -411,7 +411,7 @@ module _ (items : List Item) where
   empty-found (constructor_name a0 a1 a2 a3) h = cc
   empty-found (typed_oper ak a0 a1 a2) h = cc
   empty-found (untyped_oper ak a0 a1 a2) h = cc
-  empty-found (alternative_alone ak a0 a1 a2) h = cc
+  empty-found (overloaded ak (at_head an) a0 a1 none_found a2) h = cc
   empty-found (parameter_name a0 a1) h = cc
   empty-found (literal a0) h = cc
   empty-found (append a0 a1 a2) h = cc
@@ -420,7 +420,7 @@ module _ (items : List Item) where
   empty-found (predef a0 a1 a2) h = cc
   empty-found (projection a0 a1 a2 a3) h = cc
   empty-found (application a0 a1 a2 a3) h = cc
-  empty-found (overloaded ak a0 a1 a2 a3 a4) h = let x = (spine_is_app a0).3 in cc
+  empty-found (overloaded ak (applied_to ah asp) a1 a2 a3 a4) h = cc
   empty-found (selection a0 a1 a2 a3 a4) h = cc
   empty-found (branch_over a0 a1 a2 a3 a4 a5) h = cc
   empty-found (branch_of a0 a1 a2 a3 a4) h = cc
@@ -439,121 +439,145 @@ module _ (items : List Item) where
     pub find-once : {Γ Δ : Scope} {e f : Term} {S T : CType} {t u : LinTerm} → Finds items Γ e S t → Finds items Δ f T u → Γ ≡ Δ → e ≡ f → (S ≡ T) × (t ≡ u)
     find-once (variable a0 a1) (variable b0 b1) g e = (cc, cc)
     find-once (variable a0 a1) (type_form b0 b1) g e = let k : false ≡ true = ap is_type_form (sym a0 ∙ ap form e) ∙ typed-form b1 b0 in absurd (apart k)
+    find-once (variable a0 a1) (overloaded bk b0 b1 b2 b3 b4) g e = absurd (not-overload b0 b1 a0 e refl refl)
     find-once (variable a0 a1) d g e = absurd (apart-tags _ _ refl (same-tag a0 e (form_is d)))
     find-once (constructor_name a0 a1 a2 a3) (constructor_name b0 b1 b2 b3) g e = let i = parameter-once items a2 b2 (cc) in let j = same-arguments a3 b3 i (cc) in (cc, cc)
     find-once (constructor_name a0 a1 a2 a3) (typed_oper bk b0 b1 b2) g e = (cc, cc)
     find-once (constructor_name a0 a1 a2 a3) (untyped_oper bk b0 b1 b2) g e = (cc, cc)
-    find-once (constructor_name a0 a1 a2 a3) (alternative_alone bk b0 b1 b2) g e = (cc, cc)
+    find-once (constructor_name a0 a1 a2 a3) (overloaded bk (at_head bn) b0 b1 none_found b2) g e = (cc, cc)
     find-once (constructor_name a0 a1 a2 a3) (parameter_name b0 (parameter_of b1 b2 b3)) g e = (cc, cc)
     find-once (constructor_name a0 a1 a2 a3) (type_form b0 b1) g e = let k : false ≡ true = ap is_type_form (sym a0 ∙ ap form e) ∙ typed-form b1 b0 in absurd (apart k)
+    find-once (constructor_name a0 a1 a2 a3) (overloaded bk (applied_to bh bsp) b1 b2 b3 b4) g e = absurd (apart-tags _ _ refl (same-tag a0 e bh))
     find-once (constructor_name a0 a1 a2 a3) d g e = absurd (apart-tags _ _ refl (same-tag a0 e (form_is d)))
     find-once (typed_oper ak a0 a1 a2) (typed_oper bk b0 b1 b2) g e = let i = type-once items a2 b2 (cc) in (i, cc)
     find-once (typed_oper ak a0 a1 a2) (constructor_name b0 b1 b2 b3) g e = (cc, cc)
     find-once (typed_oper ak a0 a1 a2) (untyped_oper bk b0 b1 b2) g e = (cc, cc)
-    find-once (typed_oper ak a0 a1 a2) (alternative_alone bk b0 b1 b2) g e = (cc, cc)
+    find-once (typed_oper ak a0 a1 a2) (overloaded bk (at_head bn) b0 b1 none_found b2) g e = (cc, cc)
     find-once (typed_oper ak a0 a1 a2) (parameter_name b0 (parameter_of b1 b2 b3)) g e = (cc, cc)
     find-once (typed_oper ak a0 a1 a2) (type_form b0 b1) g e = let k : false ≡ true = ap is_type_form (sym a0 ∙ ap form e) ∙ typed-form b1 b0 in absurd (apart k)
+    find-once (typed_oper ak a0 a1 a2) (overloaded bk (applied_to bh bsp) b1 b2 b3 b4) g e = absurd (apart-tags _ _ refl (same-tag a0 e bh))
     find-once (typed_oper ak a0 a1 a2) d g e = absurd (apart-tags _ _ refl (same-tag a0 e (form_is d)))
     find-once (untyped_oper ak a0 a1 a2) (untyped_oper bk b0 b1 b2) g e = let i = find-once a2 b2 refl (cc) in (i.0, cc)
     find-once (untyped_oper ak a0 a1 a2) (constructor_name b0 b1 b2 b3) g e = (cc, cc)
     find-once (untyped_oper ak a0 a1 a2) (typed_oper bk b0 b1 b2) g e = (cc, cc)
-    find-once (untyped_oper ak a0 a1 a2) (alternative_alone bk b0 b1 b2) g e = (cc, cc)
+    find-once (untyped_oper ak a0 a1 a2) (overloaded bk (at_head bn) b0 b1 none_found b2) g e = (cc, cc)
     find-once (untyped_oper ak a0 a1 a2) (parameter_name b0 (parameter_of b1 b2 b3)) g e = (cc, cc)
     find-once (untyped_oper ak a0 a1 a2) (type_form b0 b1) g e = let k : false ≡ true = ap is_type_form (sym a0 ∙ ap form e) ∙ typed-form b1 b0 in absurd (apart k)
+    find-once (untyped_oper ak a0 a1 a2) (overloaded bk (applied_to bh bsp) b1 b2 b3 b4) g e = absurd (apart-tags _ _ refl (same-tag a0 e bh))
     find-once (untyped_oper ak a0 a1 a2) d g e = absurd (apart-tags _ _ refl (same-tag a0 e (form_is d)))
-    find-once (alternative_alone ak a0 a1 a2) (alternative_alone bk b0 b1 b2) g e = chosen-once a2 b2 (cc) refl refl
-    find-once (alternative_alone ak a0 a1 a2) (constructor_name b0 b1 b2 b3) g e = (cc, cc)
-    find-once (alternative_alone ak a0 a1 a2) (typed_oper bk b0 b1 b2) g e = (cc, cc)
-    find-once (alternative_alone ak a0 a1 a2) (untyped_oper bk b0 b1 b2) g e = (cc, cc)
-    find-once (alternative_alone ak a0 a1 a2) (parameter_name b0 (parameter_of b1 b2 b3)) g e = (cc, cc)
-    find-once (alternative_alone ak a0 a1 a2) (type_form b0 b1) g e = let k : false ≡ true = ap is_type_form (sym a0 ∙ ap form e) ∙ typed-form b1 b0 in absurd (apart k)
-    find-once (alternative_alone ak a0 a1 a2) d g e = absurd (apart-tags _ _ refl (same-tag a0 e (form_is d)))
+    find-once (overloaded ak (at_head an) a0 a1 none_found a2) (overloaded bk (at_head bn) b0 b1 none_found b2) g e = chosen-once a2 b2 (cc) refl refl
+    find-once (overloaded ak (at_head an) a0 a1 none_found a2) (constructor_name b0 b1 b2 b3) g e = (cc, cc)
+    find-once (overloaded ak (at_head an) a0 a1 none_found a2) (typed_oper bk b0 b1 b2) g e = (cc, cc)
+    find-once (overloaded ak (at_head an) a0 a1 none_found a2) (untyped_oper bk b0 b1 b2) g e = (cc, cc)
+    find-once (overloaded ak (at_head an) a0 a1 none_found a2) (parameter_name b0 (parameter_of b1 b2 b3)) g e = (cc, cc)
+    find-once (overloaded ak (at_head an) a0 a1 none_found a2) (type_form b0 b1) g e = let k : false ≡ true = ap is_type_form (sym a0 ∙ ap form e) ∙ typed-form b1 b0 in absurd (apart k)
+    find-once (overloaded ak (at_head an) a0 a1 none_found a2) d g e = absurd (apart-tags _ _ refl (same-tag a0 e (form_is d)))
     find-once (parameter_name a0 a1) (parameter_name b0 b1) g e = (refl, refl)
     find-once (parameter_name a0 (parameter_of a1 a2 a3)) (constructor_name b0 b1 b2 b3) g e = (cc, cc)
     find-once (parameter_name a0 (parameter_of a1 a2 a3)) (typed_oper bk b0 b1 b2) g e = (cc, cc)
     find-once (parameter_name a0 (parameter_of a1 a2 a3)) (untyped_oper bk b0 b1 b2) g e = (cc, cc)
-    find-once (parameter_name a0 (parameter_of a1 a2 a3)) (alternative_alone bk b0 b1 b2) g e = (cc, cc)
+    find-once (parameter_name a0 (parameter_of a1 a2 a3)) (overloaded bk (at_head bn) b0 b1 none_found b2) g e = (cc, cc)
     find-once (parameter_name a0 a1) (type_form b0 b1) g e = let k : false ≡ true = ap is_type_form (sym a0 ∙ ap form e) ∙ typed-form b1 b0 in absurd (apart k)
+    find-once (parameter_name a0 a1) (overloaded bk (applied_to bh bsp) b1 b2 b3 b4) g e = absurd (apart-tags _ _ refl (same-tag a0 e bh))
     find-once (parameter_name a0 a1) d g e = absurd (apart-tags _ _ refl (same-tag a0 e (form_is d)))
     find-once (literal a0) (literal b0) g e = (refl, cc)
     find-once (literal a0) (type_form b0 b1) g e = let k : false ≡ true = ap is_type_form (sym a0 ∙ ap form e) ∙ typed-form b1 b0 in absurd (apart k)
+    find-once (literal a0) (overloaded bk b0 b1 b2 b3 b4) g e = absurd (not-overload b0 b1 a0 e refl refl)
     find-once (literal a0) d g e = absurd (apart-tags _ _ refl (same-tag a0 e (form_is d)))
     find-once (append a0 a1 a2) (append b0 b1 b2) g e = let i = check-once a1 b1 g (cc) refl in let j = check-once a2 b2 g (cc) refl in (refl, cc)
     find-once (append a0 a1 a2) (type_form b0 b1) g e = let k : false ≡ true = ap is_type_form (sym a0 ∙ ap form e) ∙ typed-form b1 b0 in absurd (apart k)
+    find-once (append a0 a1 a2) (overloaded bk b0 b1 b2 b3 b4) g e = absurd (not-overload b0 b1 a0 e refl refl)
     find-once (append a0 a1 a2) d g e = absurd (apart-tags _ _ refl (same-tag a0 e (form_is d)))
     find-once (glue a0 a1 a2) (glue b0 b1 b2) g e = let i = check-once a1 b1 g (cc) refl in let j = check-once a2 b2 g (cc) refl in (refl, cc)
     find-once (glue a0 a1 a2) (type_form b0 b1) g e = let k : false ≡ true = ap is_type_form (sym a0 ∙ ap form e) ∙ typed-form b1 b0 in absurd (apart k)
+    find-once (glue a0 a1 a2) (overloaded bk b0 b1 b2 b3 b4) g e = absurd (not-overload b0 b1 a0 e refl refl)
     find-once (glue a0 a1 a2) d g e = absurd (apart-tags _ _ refl (same-tag a0 e (form_is d)))
     find-once (number a0) (number b0) g e = (cc, cc)
     find-once (number a0) (type_form b0 b1) g e = let k : false ≡ true = ap is_type_form (sym a0 ∙ ap form e) ∙ typed-form b1 b0 in absurd (apart k)
+    find-once (number a0) (overloaded bk b0 b1 b2 b3 b4) g e = absurd (not-overload b0 b1 a0 e refl refl)
     find-once (number a0) d g e = absurd (apart-tags _ _ refl (same-tag a0 e (form_is d)))
     find-once (predef a0 a1 a2) (predef b0 b1 b2) g e = (refl, cc)
     find-once (predef a0 a1 a2) (projection b0 b1 b2 b3) g e = absurd (no-sort-found b1 (apart-heads a0 b0 e a1) refl)
     find-once (predef a0 a1 a2) (type_form b0 b1) g e = let k : false ≡ true = ap is_type_form (sym a0 ∙ ap form e) ∙ typed-form b1 b0 in absurd (apart k)
+    find-once (predef a0 a1 a2) (overloaded bk b0 b1 b2 b3 b4) g e = absurd (not-overload b0 b1 a0 e refl refl)
     find-once (predef a0 a1 a2) d g e = absurd (apart-tags _ _ refl (same-tag a0 e (form_is d)))
     find-once (projection a0 a1 a2 a3) (projection b0 b1 b2 b3) g e = let i = find-once a1 b1 g (cc) in (cc, cc)
     find-once (projection a0 a1 a2 a3) (predef b0 b1 b2) g e = absurd (no-sort-found a1 (apart-heads b0 a0 (sym e) b1) refl)
     find-once (projection a0 a1 a2 a3) (type_form b0 b1) g e = let k : false ≡ true = ap is_type_form (sym a0 ∙ ap form e) ∙ typed-form b1 b0 in absurd (apart k)
+    find-once (projection a0 a1 a2 a3) (overloaded bk b0 b1 b2 b3 b4) g e = absurd (not-overload b0 b1 a0 e refl refl)
     find-once (projection a0 a1 a2 a3) d g e = absurd (apart-tags _ _ refl (same-tag a0 e (form_is d)))
     find-once (application a0 a1 a2 a3) (application b0 b1 b2 b3) g e = let i = find-once a1 b1 g (cc) in let j = check-once a3 b3 g (cc) (cc) in (cc, cc)
-    find-once (application a0 a1 a2 a3) (overloaded bk b0 b1 b2 b3 b4) g e = absurd (applies-none b0 a0 (sym e) a1 a2 b1 b2)
+    find-once (application a0 a1 a2 a3) (overloaded bk (applied_to bh bsp) b1 b2 b3 b4) g e = absurd (applies-none bh bsp a0 (sym e) a1 a2 b1 b2)
     find-once (application a0 a1 a2 a3) (type_form b0 b1) g e = absurd (no_ints a0 a1 b1 e)
+    find-once (application a0 a1 a2 a3) (overloaded bk (at_head bn) b1 b2 b3 b4) g e = absurd (apart-tags _ _ refl (same-tag a0 e b1))
     find-once (application a0 a1 a2 a3) d g e = absurd (apart-tags _ _ refl (same-tag a0 e (form_is d)))
-    find-once (overloaded ak a0 a1 a2 a3 a4) (overloaded bk b0 b1 b2 b3 b4) g e = let s = spine-once a0 b0 e refl in let i = all-once a3 b3 g s.1 in chosen-once a4 b4 (cc) i.0 i.1
-    find-once (overloaded ak a0 a1 a2 a3 a4) (application b0 b1 b2 b3) g e = absurd (applies-none a0 b0 e b1 b2 a1 a2)
-    find-once (overloaded ak a0 a1 a2 a3 a4) (type_form b0 b1) g e = absurd (no_ints_var a0 a1 b1 e)
-    find-once (overloaded ak a0 a1 a2 a3 a4) d g e = absurd (apart-tags _ _ refl (same-tag (spine_is_app a0).3 e (form_is d)))
+    find-once (overloaded ak (applied_to ah asp) a1 a2 a3 a4) (overloaded bk (applied_to bh bsp) b1 b2 b3 b4) g e = let s = spine-once (applied_to ah asp) (applied_to bh bsp) e refl in let i = all-once a3 b3 g s.1 in chosen-once a4 b4 (cc) i.0 i.1
+    find-once (overloaded ak (applied_to ah asp) a1 a2 a3 a4) (application b0 b1 b2 b3) g e = absurd (applies-none ah asp b0 e b1 b2 a1 a2)
+    find-once (overloaded ak (applied_to ah asp) a1 a2 a3 a4) (type_form b0 b1) g e = absurd (no_ints_var ah asp a1 b1 e)
+    find-once (overloaded ak (applied_to ah asp) a1 a2 a3 a4) d g e = absurd (apart-tags _ _ refl (same-tag ah e (form_is d)))
     find-once (selection a0 a1 a2 a3 a4) (selection b0 b1 b2 b3 b4) g e = let i = find-once a2 b2 g (cc) in let j = check-once a4 b4 g (cc) (cc) in (cc, cc)
     find-once (selection a0 a1 a2 a3 a4) (branch_over b0 b1 b2 b3 b4 b5) g e = absurd (apart-tables a0 b0 e a1 (ap is_table_expression b1))
     find-once (selection a0 a1 a2 a3 a4) (branch_of b0 b1 b2 b3 b4) g e = absurd (apart-tables a0 b0 e a1 (ap is_table_expression b1))
     find-once (selection a0 a1 a2 a3 a4) (item_of b0 b1 b2 b3 b4 b5 b6) g e = absurd (apart-tables a0 b0 e a1 (ap is_table_expression b1))
     find-once (selection a0 a1 a2 a3 a4) (type_form b0 b1) g e = let k : false ≡ true = ap is_type_form (sym a0 ∙ ap form e) ∙ typed-form b1 b0 in absurd (apart k)
+    find-once (selection a0 a1 a2 a3 a4) (overloaded bk b0 b1 b2 b3 b4) g e = absurd (not-overload b0 b1 a0 e refl refl)
     find-once (selection a0 a1 a2 a3 a4) d g e = absurd (apart-tags _ _ refl (same-tag a0 e (form_is d)))
     find-once (branch_over a0 a1 a2 a3 a4 a5) (branch_over b0 b1 b2 b3 b4 b5) g e = let i = type-once items a2 b2 (cc) in let j = branches-found a3 b3 g i (cc) in let l = check-once a5 b5 g (cc) i in (j.0, cc)
     find-once (branch_over a0 a1 a2 a3 a4 a5) (selection b0 b1 b2 b3 b4) g e = absurd (apart-tables b0 a0 (sym e) b1 (ap is_table_expression a1))
     find-once (branch_over a0 a1 a2 a3 a4 a5) (branch_of b0 b1 b2 b3 b4) g e = (cc, cc)
     find-once (branch_over a0 a1 a2 a3 a4 a5) (item_of b0 b1 b2 b3 b4 b5 b6) g e = (cc, cc)
     find-once (branch_over a0 a1 a2 a3 a4 a5) (type_form b0 b1) g e = let k : false ≡ true = ap is_type_form (sym a0 ∙ ap form e) ∙ typed-form b1 b0 in absurd (apart k)
+    find-once (branch_over a0 a1 a2 a3 a4 a5) (overloaded bk b0 b1 b2 b3 b4) g e = absurd (not-overload b0 b1 a0 e refl refl)
     find-once (branch_over a0 a1 a2 a3 a4 a5) d g e = absurd (apart-tags _ _ refl (same-tag a0 e (form_is d)))
     find-once (branch_of a0 a1 a2 a3 a4) (branch_of b0 b1 b2 b3 b4) g e = let i = find-once a2 b2 g (cc) in let j = branches-found a3 b3 g i.0 (cc) in (j.0, cc)
     find-once (branch_of a0 a1 a2 a3 a4) (selection b0 b1 b2 b3 b4) g e = absurd (apart-tables b0 a0 (sym e) b1 (ap is_table_expression a1))
     find-once (branch_of a0 a1 a2 a3 a4) (branch_over b0 b1 b2 b3 b4 b5) g e = (cc, cc)
     find-once (branch_of a0 a1 a2 a3 a4) (item_of b0 b1 b2 b3 b4 b5 b6) g e = (cc, cc)
     find-once (branch_of a0 a1 a2 a3 a4) (type_form b0 b1) g e = let k : false ≡ true = ap is_type_form (sym a0 ∙ ap form e) ∙ typed-form b1 b0 in absurd (apart k)
+    find-once (branch_of a0 a1 a2 a3 a4) (overloaded bk b0 b1 b2 b3 b4) g e = absurd (not-overload b0 b1 a0 e refl refl)
     find-once (branch_of a0 a1 a2 a3 a4) d g e = absurd (apart-tags _ _ refl (same-tag a0 e (form_is d)))
     find-once (item_of a0 a1 a2 a3 a4 a5 a6) (item_of b0 b1 b2 b3 b4 b5 b6) g e = let i = type-once items a2 b2 (cc) in let j = members-found a4 b4 g (cc) in let l = check-once a6 b6 g (cc) i in (j.0, cc)
     find-once (item_of a0 a1 a2 a3 a4 a5 a6) (selection b0 b1 b2 b3 b4) g e = absurd (apart-tables b0 a0 (sym e) b1 (ap is_table_expression a1))
     find-once (item_of a0 a1 a2 a3 a4 a5 a6) (branch_over b0 b1 b2 b3 b4 b5) g e = (cc, cc)
     find-once (item_of a0 a1 a2 a3 a4 a5 a6) (branch_of b0 b1 b2 b3 b4) g e = (cc, cc)
     find-once (item_of a0 a1 a2 a3 a4 a5 a6) (type_form b0 b1) g e = let k : false ≡ true = ap is_type_form (sym a0 ∙ ap form e) ∙ typed-form b1 b0 in absurd (apart k)
+    find-once (item_of a0 a1 a2 a3 a4 a5 a6) (overloaded bk b0 b1 b2 b3 b4) g e = absurd (not-overload b0 b1 a0 e refl refl)
     find-once (item_of a0 a1 a2 a3 a4 a5 a6) d g e = absurd (apart-tags _ _ refl (same-tag a0 e (form_is d)))
     find-once (case_found a0 a1 a2 a3) (case_found b0 b1 b2 b3) g e = let i = find-once a1 b1 g (cc) in let j = branches-found a2 b2 g i.0 (cc) in (j.0, cc)
     find-once (case_found a0 a1 a2 a3) (type_form b0 b1) g e = let k : false ≡ true = ap is_type_form (sym a0 ∙ ap form e) ∙ typed-form b1 b0 in absurd (apart k)
+    find-once (case_found a0 a1 a2 a3) (overloaded bk b0 b1 b2 b3 b4) g e = absurd (not-overload b0 b1 a0 e refl refl)
     find-once (case_found a0 a1 a2 a3) d g e = absurd (apart-tags _ _ refl (same-tag a0 e (form_is d)))
     find-once (table_found a0 a1 a2 a3 a4) (table_found b0 b1 b2 b3 b4) g e = let i = type-once items a1 b1 (cc) in let j = branches-found a3 b3 g i (cc) in (cc, cc)
     find-once (table_found a0 a1 a2 a3 a4) (type_form b0 b1) g e = let k : false ≡ true = ap is_type_form (sym a0 ∙ ap form e) ∙ typed-form b1 b0 in absurd (apart k)
+    find-once (table_found a0 a1 a2 a3 a4) (overloaded bk b0 b1 b2 b3 b4) g e = absurd (not-overload b0 b1 a0 e refl refl)
     find-once (table_found a0 a1 a2 a3 a4) d g e = absurd (apart-tags _ _ refl (same-tag a0 e (form_is d)))
     find-once (list_found a0 a1 a2 a3 a4) (list_found b0 b1 b2 b3 b4) g e = let i = type-once items a1 b1 (cc) in let j = members-found a3 b3 g (cc) in (cc, cc)
     find-once (list_found a0 a1 a2 a3 a4) (type_form b0 b1) g e = let k : false ≡ true = ap is_type_form (sym a0 ∙ ap form e) ∙ typed-form b1 b0 in absurd (apart k)
+    find-once (list_found a0 a1 a2 a3 a4) (overloaded bk b0 b1 b2 b3 b4) g e = absurd (not-overload b0 b1 a0 e refl refl)
     find-once (list_found a0 a1 a2 a3 a4) d g e = absurd (apart-tags _ _ refl (same-tag a0 e (form_is d)))
     find-once (record_found a0 a1) (record_found b0 b1) g e = let i = fields-have a1 b1 g refl (cc) in (cc, cc)
     find-once (record_found a0 a1) (type_form b0 b1) g e = absurd (no_record a0 a1 b0 b1 e)
+    find-once (record_found a0 a1) (overloaded bk b0 b1 b2 b3 b4) g e = absurd (not-overload b0 b1 a0 e refl refl)
     find-once (record_found a0 a1) d g e = absurd (apart-tags _ _ refl (same-tag a0 e (form_is d)))
     find-once (extension a0 a1 a2 a3 a4) (extension b0 b1 b2 b3 b4) g e = let i = find-once a1 b1 g (cc) in let j = find-once a3 b3 g (cc) in (same-extension i.0 j.0 a2 a4 b2 b4, cc)
     find-once (extension a0 a1 a2 a3 a4) (type_form b0 b1) g e = let k : false ≡ true = ap is_type_form (sym a0 ∙ ap form e) ∙ typed-form b1 b0 in absurd (apart k)
+    find-once (extension a0 a1 a2 a3 a4) (overloaded bk b0 b1 b2 b3 b4) g e = absurd (not-overload b0 b1 a0 e refl refl)
     find-once (extension a0 a1 a2 a3 a4) d g e = absurd (apart-tags _ _ refl (same-tag a0 e (form_is d)))
     find-once (typed a0 a1 a2) (typed b0 b1 b2) g e = let i = type-once items a1 b1 (cc) in let j = check-once a2 b2 g (cc) i in (i, j)
     find-once (typed a0 a1 a2) (type_form b0 b1) g e = let k : false ≡ true = ap is_type_form (sym a0 ∙ ap form e) ∙ typed-form b1 b0 in absurd (apart k)
+    find-once (typed a0 a1 a2) (overloaded bk b0 b1 b2 b3 b4) g e = absurd (not-overload b0 b1 a0 e refl refl)
     find-once (typed a0 a1 a2) d g e = absurd (apart-tags _ _ refl (same-tag a0 e (form_is d)))
     find-once (let_found a0 a1 a2) (let_found b0 b1 b2) g e = let i = defines-once a1 b1 g (cc) in let j = find-once a2 b2 i.0 (cc) in (j.0, cc)
     find-once (let_found a0 a1 a2) (type_form b0 b1) g e = let k : false ≡ true = ap is_type_form (sym a0 ∙ ap form e) ∙ typed-form b1 b0 in absurd (apart k)
+    find-once (let_found a0 a1 a2) (overloaded bk b0 b1 b2 b3 b4) g e = absurd (not-overload b0 b1 a0 e refl refl)
     find-once (let_found a0 a1 a2) d g e = absurd (apart-tags _ _ refl (same-tag a0 e (form_is d)))
     find-once (variants_found a0 a1) (variants_found b0 b1) g e = let i = members-found a1 b1 g (cc) in (i.0, cc)
     find-once (variants_found a0 a1) (type_form b0 b1) g e = let k : false ≡ true = ap is_type_form (sym a0 ∙ ap form e) ∙ typed-form b1 b0 in absurd (apart k)
+    find-once (variants_found a0 a1) (overloaded bk b0 b1 b2 b3 b4) g e = absurd (not-overload b0 b1 a0 e refl refl)
     find-once (variants_found a0 a1) d g e = absurd (apart-tags _ _ refl (same-tag a0 e (form_is d)))
     find-once (type_form a0 a1) (type_form b0 b1) g e = (refl, refl)
     find-once (type_form a0 a1) (application b0 b1 b2 b3) g e = absurd (no_ints b0 b1 a1 (sym e))
-    find-once (type_form a0 a1) (overloaded bk b0 b1 b2 b3 b4) g e = absurd (no_ints_var b0 b1 a1 (sym e))
+    find-once (type_form a0 a1) (overloaded bk (applied_to bh bsp) b1 b2 b3 b4) g e = absurd (no_ints_var bh bsp b1 a1 (sym e))
     find-once (type_form a0 a1) (record_found b0 b1) g e = absurd (no_record b0 b1 a0 a1 (sym e))
     find-once (type_form a0 a1) d g e = let k : is_type_form (form_of d) ≡ true = ap is_type_form (sym (form_is d) ∙ ap form (sym e)) ∙ typed-form a1 a0 in absurd (apart k)
 
@@ -567,14 +591,10 @@ module _ (items : List Item) where
     check-once (found a0 a1 a2) (table_lambda b0 b1 b2) g e s = absurd (passes-clash b0 (sym e) (sym s) refl a0)
     check-once (table_lambda a0 a1 a2) (found b0 b1 b2) g e s = absurd (passes-clash a0 e s refl b0)
     check-once (table_lambda a0 a1 a2) d g e s = absurd (apart-tags _ _ refl (same-tag a0 e (check_form_is d)))
-    check-once (branches a0 a1 a2 a3) (branches b0 b1 b2 b3) g e s = let i = branches-checked a2 b2 g (cc) (cc) (cc) in cc
-    check-once (found a0 a1 a2) (branches b0 b1 b2 b3) g e s = absurd (passes-clash b0 (sym e) (sym s) refl a0)
-    check-once (branches a0 a1 a2 a3) (found b0 b1 b2) g e s = absurd (passes-clash a0 e s refl b0)
-    check-once (branches a0 a1 a2 a3) d g e s = absurd (apart-tags _ _ refl (same-tag a0 e (check_form_is d)))
-    check-once (branches_over a0 a1 a2 a3 a4) (branches_over b0 b1 b2 b3 b4) g e s = let i = branches-checked a3 b3 g (cc) (cc) (cc) in cc
-    check-once (found a0 a1 a2) (branches_over b0 b1 b2 b3 b4) g e s = absurd (passes-clash b0 (sym e) (sym s) (table-passes _ b1) a0)
-    check-once (branches_over a0 a1 a2 a3 a4) (found b0 b1 b2) g e s = absurd (passes-clash a0 e s (table-passes _ a1) b0)
-    check-once (branches_over a0 a1 a2 a3 a4) d g e s = absurd (apart-tags _ _ refl (same-tag a0 e (check_form_is d)))
+    check-once (branches a0 a1 a2 a3 a4) (branches b0 b1 b2 b3 b4) g e s = let i = branches-checked a3 b3 g (cc) (cc) (cc) in cc
+    check-once (found a0 a1 a2) (branches {D = D} {cs = cs} {p = p} b0 b1 b2 b3 b4) g e s = absurd (passes-clash b0 (sym e) (sym s) (branches-pass D cs p _ b1) a0)
+    check-once (branches {D = D} {cs = cs} {p = p} a0 a1 a2 a3 a4) (found b0 b1 b2) g e s = absurd (passes-clash a0 e s (branches-pass D cs p _ a1) b0)
+    check-once (branches a0 a1 a2 a3 a4) d g e s = absurd (apart-tags _ _ refl (same-tag a0 e (check_form_is d)))
     check-once (listed a0 a1 a2 a3 a4) (listed b0 b1 b2 b3 b4) g e s = let i = members-checked a3 b3 g (cc) (cc) in cc
     check-once (found a0 a1 a2) (listed b0 b1 b2 b3 b4) g e s = absurd (passes-clash b0 (sym e) (sym s) (table-passes _ b1) a0)
     check-once (listed a0 a1 a2 a3 a4) (found b0 b1 b2) g e s = absurd (passes-clash a0 e s (table-passes _ a1) b0)

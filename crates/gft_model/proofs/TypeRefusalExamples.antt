@@ -29,7 +29,7 @@ use Rattle.gft_syntax.specs.declared.value.Param.{Param}
 use Rattle.gft_syntax.specs.declared.value.Param.TheViews.{out-roll-Param}
 use Rattle.gft_syntax.specs.declared.value.Param.TheFolds.{fold-roll-Param}
 use Rattle.gft_model.specs.ConcreteTypes.{count_of, values_of, table_in}
-use Rattle.gft_model.specs.ConcreteTyping.{IsData, Checks, Suits, suits_by, takes_none, found, alternative_alone, same, passes, type_of_types, IsType, IsParameter, IsDomain, text_type, table_over, parameters_named, parameter_of, no_constructor, constructor, no_argument}
+use Rattle.gft_model.specs.ConcreteTyping.{IsData, Checks, Suits, suits_by, takes_none, found, overloaded as of_overload, at_head, none_found, same, passes, type_of_types, IsType, IsParameter, IsDomain, text_type, table_over, parameters_named, parameter_of, no_constructor, constructor, no_argument}
 use Rattle.gft_model.specs.Items.{items_of}
 use Rattle.gft_model.specs.JudgementTyping.{IsSort}
 use Rattle.gft_model.specs.Refusals.{refusal}
@@ -181,7 +181,7 @@ only_one (suc (suc j)) S u (suits_by a b c) = cc
 
 f_is_a_type : Checks (items_of overloaded) [] f_term sort_type (made (L.Oper 0))
 f_is_a_type = found (ap (λ d. passes d (out-CType sort_type)) (form-roll _))
-    (alternative_alone 0 (form-roll _) refl
+    (of_overload 0 (at_head (λ f a p e. let k = form-roll (T.Var (WholeName (whole (codes "f"))) (here 3 13)) in cc)) (form-roll _) refl none_found
     (record { suits = suits_by refl (type_of_types (form-roll _)) (takes_none sort_is_data); alone = only_one })) same
 
 found_no_type : TypeFaults.BreaksTypes overloaded [] (whole (codes "x")) oper_x (1 ∷ []) (refusal R.Unknown (place_of f_term) (codes "f" ∷ []))

@@ -191,14 +191,14 @@ module _ (items : List Item) where
   -- table {Sg => "a" ; Pl => "b"} fits Number => Str
   pub table_fits : Checks items [] (table_of (branch_of (codes "Sg") (codes "a") ∷ branch_of (codes "Pl") (codes "b") ∷ [])) (table_type number_of str_type)
       (made (L.Table number_of (Matched ((name (codes "Sg"), words (codes "a")) ∷ (name (codes "Pl"), words (codes "b")) ∷ []))))
-  table_fits = branches (form-roll _) (out-roll-CType _)
+  table_fits = branches (form-roll _) (out-roll-CType _) (λ d e. absurd (cc))
       (branch (constructor_with (pattern_form-roll _) (of_number (codes "Sg") refl) no_more) (literal_fits (codes "a")) str_data
       (branch (constructor_with (pattern_form-roll _) (of_number (codes "Pl") refl) no_more) (literal_fits (codes "b")) str_data no_branch))
       (simp (fold-roll-CType, match-roll, out-roll-Param))
 
   -- table {Sg => "a"} does not: Pl is left out
   pub table_leaves_out : {V T : CType} {t : LinTerm} → Checks items [] (table_of (branch_of (codes "Sg") (codes "a") ∷ [])) T t → out-CType T ≡ C.Table number_of V → ⊥
-  table_leaves_out (branches {cs = cs} {P = P} a b c d) h =
+  table_leaves_out (branches {cs = cs} {P = P} a b z c d) h =
       let k = form-roll (F.TableOf None (branch_of (codes "Sg") (codes "a") ∷ []) nowhere) in
       let e : P ≡ number_of = cc in let f : cs ≡ branch_of (codes "Sg") (codes "a") ∷ [] = cc in
       not_covered (subst (λ (Q : CType). Covers Q (patterns (branch_of (codes "Sg") (codes "a") ∷ []))) e (subst (λ (ds : List (Case Term)). Covers P (patterns ds)) f d))

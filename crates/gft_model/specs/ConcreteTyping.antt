@@ -1,7 +1,7 @@
 -- Concrete typing: which types are found for terms and which terms fit a given type, each with the
 -- typed term that says what the term means.
-use Rattle.std.specs.Prelude.{◌≡◌, ℕ, ◌≤◌, List, [], ◌∷◌, ◌++◌, map, reverse, length, ◌⊎◌, Some, None, IsTrue, Bool, true, false, ◌&&◌}
-use Rattle.std.specs.Option.{is_some}
+use Rattle.std.specs.Prelude.{◌≡◌, ℕ, ◌≤◌, List, [], ◌∷◌, ◌++◌, map, reverse, length, ◌⊎◌, Some, None, IsTrue, Bool, true, false, ◌&&◌, All}
+use Rattle.std.specs.Option.{is_some, option_to_list}
 use Rattle.std.specs.List.{list_all, list_any}
 use Rattle.gft_core.specs.Words.{words_of}
 use Rattle.gft_core.specs.declared.place.Place.{Place}
@@ -119,8 +119,6 @@ module _ (items : List Item) where
           Stands items w (an_oper k (Some D) d) → IsType items D T → Finds Γ e T (made (Lin-F.Oper k))
       untyped_oper : {Γ e d w : _} (k : ℕ) {p T t : _} → form e ≡ Term-F.Var (WholeName w) p →
           Stands items w (an_oper k None (Some d)) → Finds [] d T t → Finds Γ e T (made (Lin-F.Oper k))
-      alternative_alone : {Γ e w : _} (k : ℕ) {p R t : _} → form e ≡ Term-F.Var (WholeName w) p → Stands items w an_overload →
-          Chosen w [] [] k R t → Finds Γ e R t
       parameter_name : {Γ e w p T : _} → form e ≡ Term-F.Var (WholeName w) p → IsParameter items w T →
           Finds Γ e sort_type no_value
       type_form : {Γ e T : _} → is_term_first (form e) ≡ false → IsType items e T → Finds Γ e sort_type no_value
@@ -136,8 +134,8 @@ module _ (items : List Item) where
           field_of x fs ≡ Some T → Finds Γ e T (made (Lin-F.Proj t x))
       application : {Γ e f a p F A B t u : _} → form e ≡ Term-F.App f a p → Finds Γ f F t → out-CType F ≡ CType-F.Fun A B →
           Checks Γ a A u → Finds Γ e B (made (Lin-F.App t u))
-      overloaded : {Γ e f a es w : _} (k : ℕ) {p As us R u : _} → Spine e [] f (a ∷ es) → form f ≡ Term-F.Var (WholeName w) p →
-          Stands items w an_overload → FindsAll Γ (a ∷ es) As us → Chosen w As us k R u → Finds Γ e R u
+      overloaded : {Γ e f es w : _} (k : ℕ) {p As us R u : _} → Spine e [] f es → form f ≡ Term-F.Var (WholeName w) p →
+          Stands items w an_overload → FindsAll Γ es As us → Chosen w As us k R u → Finds Γ e R u
       selection : {Γ e a b p S P V t u : _} → form e ≡ Term-F.Select a b p → is_table_expression (form a) ≡ false →
           Finds Γ a S t → out-CType S ≡ CType-F.Table P V → Checks Γ b P u → Finds Γ e V (made (Lin-F.Select t u))
       branch_over : {Γ e a b P cs p q S V u bs : _} → form e ≡ Term-F.Select a b p → form a ≡ Term-F.TableOf (Some P) cs q →
@@ -171,10 +169,8 @@ module _ (items : List Item) where
           Checks (with_bound x A Γ) b B t → Checks Γ e T (made (Lin-F.Lambda (bound x) t))
       table_lambda : {Γ e b x p T P V t : _} → form e ≡ Term-F.TabFun (x ∷ []) b p → out-CType T ≡ CType-F.Table P V →
           Checks (with_bound x P Γ) b V t → Checks Γ e T (made (Lin-F.Table P (Matched ((bound_pattern x, t) ∷ []))))
-      branches : {Γ e cs p T P V bs : _} → form e ≡ Term-F.TableOf None cs p → out-CType T ≡ CType-F.Table P V →
-          BranchesCheck Γ P cs V bs → Covers P (patterns cs) → Checks Γ e T (made (Lin-F.Table P (Matched bs)))
-      branches_over : {Γ e D cs p T P V bs : _} → form e ≡ Term-F.TableOf (Some D) cs p → out-CType T ≡ CType-F.Table P V →
-          IsType items D P → BranchesCheck Γ P cs V bs → Covers P (patterns cs) →
+      branches : {Γ e D cs p T P V bs : _} → form e ≡ Term-F.TableOf D cs p → out-CType T ≡ CType-F.Table P V →
+          ((d : Term) → D ≡ Some d → IsType items d P) → BranchesCheck Γ P cs V bs → Covers P (patterns cs) →
           Checks Γ e T (made (Lin-F.Table P (Matched bs)))
       listed : {Γ e D es p T P V ts : _} → form e ≡ Term-F.TableList D es p → out-CType T ≡ CType-F.Table P V → IsType items D P →
           MembersCheck Γ es V ts → count_of P ≤ length es → Checks Γ e T (made (Lin-F.Table P (Listed P ts)))
@@ -218,7 +214,8 @@ module _ (items : List Item) where
 
     -- fields of data as written: one whose label has a given type is given it, one with a type of its
     -- own is given that, and every other is found
-    pub data FieldsHave : Scope → List (List ℕ × CType) → List (Local Term) → List (List ℕ × CType) → List (List ℕ × LinTerm) → Type 0 where
+    pub data FieldsHave : Scope → List (List ℕ × CType) → List (Local Term) → List (List ℕ × CType) →
+        List (List ℕ × LinTerm) → Type 0 where
       no_field : {Γ gs : _} → FieldsHave Γ gs [] [] []
       value_given : {Γ gs fs x e ls ts T t : _} → field_of x gs ≡ Some T → Checks Γ e T t → FieldsHave Γ gs ls fs ts →
           FieldsHave Γ gs (Value (x ∷ []) e ∷ ls) ((x, T) ∷ fs) ((x, t) ∷ ts)

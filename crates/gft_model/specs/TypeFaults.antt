@@ -158,20 +158,18 @@ module _ (flat : Flat) where
         length ps ≤ length As → PatternHas p (functions (drop (length ps) As) B)
 
   -- what is broken at a pattern that is given a type, before its parts are looked at and after that
-  pub data BreaksPatternEarly (p : Pattern) (A : CType) : Rule → List (List ℕ) → Type 0 where
+  pub data BreaksPattern (p : Pattern) (A : CType) : Moment → Rule → List (List ℕ) → Type 0 where
     applied_too_far : {m c ps q As B : _} → pattern_form p ≡ P.Con m (WholeName c) ps q → IsConstructorOf flat c As B →
-        length As < length ps → BreaksPatternEarly p A R.NotFunction (type_text B ∷ [])
+        length As < length ps → BreaksPattern p A (0 ∷ []) R.NotFunction (type_text B ∷ [])
     pattern_of_no_record : {fs q : _} → pattern_form p ≡ P.Fields fs q → record_in (out-CType A) ≡ None →
-        BreaksPatternEarly p A R.NotRecord (type_text A ∷ [])
+        BreaksPattern p A (0 ∷ []) R.NotRecord (type_text A ∷ [])
     pattern_of_no_field : {fs q gs x : _} → pattern_form p ≡ P.Fields fs q → record_in (out-CType A) ≡ Some gs →
-        first_absent (keys_of gs) (flat_map (λ f. f.labels) fs) ≡ Some x → BreaksPatternEarly p A R.NoField (x ∷ [])
-
-  pub data BreaksPattern (p : Pattern) (A : CType) : Rule → List (List ℕ) → Type 0 where
+        first_absent (keys_of gs) (flat_map (λ f. f.labels) fs) ≡ Some x → BreaksPattern p A (0 ∷ []) R.NoField (x ∷ [])
     pattern_does_not_fit : {B : _} → PatternHas p B → ¬ (IsSubtype B A) →
-        BreaksPattern p A R.Mismatch (type_text A ∷ type_text B ∷ [])
+        BreaksPattern p A [] R.Mismatch (type_text A ∷ type_text B ∷ [])
     variable_of_two_types : {q r B C a : _} (Γ Δ after : Scope) (before : Scope) (x : List ℕ) → pattern_form p ≡ P.Or q r a →
         PatternFits A q Γ → PatternFits A r Δ → Γ ≡ before ++ (x, B) ∷ after → All (λ f. field_of f.0 Δ ≡ Some f.1) before →
-        field_of x Δ ≡ Some C → B ≢ C → BreaksPattern p A R.Mismatch (type_text B ∷ type_text C ∷ [])
+        field_of x Δ ≡ Some C → B ≢ C → BreaksPattern p A [] R.Mismatch (type_text B ∷ type_text C ∷ [])
 
   -- what is broken at terms and patterns that stand in these sites
   pub data BreaksSites (sites : List Site) : Moment → Refusal → Type 0 where
@@ -181,11 +179,9 @@ module _ (flat : Flat) where
         BreaksSites sites at (refusal rule (place_of e) names)
     at_type : {at Γ e S r rule names : _} → StandsIn flat sites at Γ (a_term e) (as_type S) r → BreaksSort Γ e S rule names →
         BreaksSites sites at (refusal rule (place_of e) names)
-    at_pattern_early : {at Γ p A r rule names : _} → StandsIn flat sites at Γ (a_pattern p) (given A) r →
-        BreaksPatternEarly p A rule names →
-        BreaksSites sites (at ++ 0 ∷ []) (refusal rule (pattern_place (pattern_form p)) names)
-    at_pattern : {at Γ p A r rule names : _} → StandsIn flat sites at Γ (a_pattern p) (given A) r → BreaksPattern p A rule names →
-        BreaksSites sites at (refusal rule (pattern_place (pattern_form p)) names)
+    at_pattern : {at Γ p A r early rule names : _} → StandsIn flat sites at Γ (a_pattern p) (given A) r →
+        BreaksPattern p A early rule names →
+        BreaksSites sites (at ++ early) (refusal rule (pattern_place (pattern_form p)) names)
 
   -- what is broken in the types of the judgement of that whole name, in a language
   pub data BreaksTypes (lang : List ℕ) (w : Whole) (j : Judgement) : Moment → Refusal → Type 0 where
