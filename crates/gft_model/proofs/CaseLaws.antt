@@ -4,6 +4,7 @@ use Rattle.std.proofs.lemmas.List.{append-nil, map-append}
 use Rattle.std.proofs.lemmas.Simd.{map-map}
 use Rattle.std.proofs.lemmas.Grind.{flat_map-append}
 use Rattle.std.specs.List.{flat_map, zip}
+use Rattle.std.specs.Map.{keys_of}
 use Rattle.gft_syntax.specs.declared.ctype.CType.{CType, roll-CType}
 use Rattle.gft_syntax.specs.declared.ctype.CType.TheOpen as C
 use Rattle.gft_syntax.specs.declared.ctype.CType.TheFolds.{ind-CType, map-CType, para-CType}
@@ -14,7 +15,7 @@ use Rattle.gft_syntax.specs.declared.value.PathStep.TheVariants.{Label, Cell}
 use Rattle.gft_syntax.specs.declared.value.Value.{Value, roll-Value}
 use Rattle.gft_syntax.specs.declared.value.Value.TheOpen as V
 use Rattle.gft_syntax.specs.declared.value.Value.TheFolds.{ind-Value, map-Value, fold-Value}
-use Rattle.gft_model.specs.ConcreteTypes.{upto, choices, field_choices, values_of, Leaf, below, leaf_values, cells_of_type, cases_of}
+use Rattle.gft_model.specs.ConcreteTypes.{upto, choices, values_of, Leaf, below, leaf_values, cells_of_type, cases_of}
 use Rattle.gft_model.specs.Productions.{case_values}
 use Rattle.gft_model.specs.TreeValues.{case_values_step, Numbered, number_step, number_all, closed_parts}
 use Rattle.gft_model.specs.ValueForms.{con_param, number_param, param_value, record_value, table_value}
@@ -85,49 +86,12 @@ params [] = refl
 params (v ∷ vs) = let e = case_of-roll (V.Param v) in let k = params vs in cc
 
 -- each of a list of values before each choice of the rest
-one-field : (l : List ℕ) (v : Value) (gss : List (List (List ℕ × Value))) →
-    map joined (map (λ (rest : List (List ℕ × Value)). (l, v) ∷ rest) gss) ≡ map (λ ps. case_of v ++ ps) (map joined gss)
-one-field l v [] = refl
-one-field l v (gs ∷ gss) = ap (λ pss. (case_of v ++ joined gs) ∷ pss) (one-field l v gss)
-
-all-fields : (l : List ℕ) (vs : List Value) (gss : List (List (List ℕ × Value))) →
-    map joined (flat_map (λ v. map (λ (rest : List (List ℕ × Value)). (l, v) ∷ rest) gss) vs) ≡ both (map case_of vs) (map joined gss)
-all-fields l [] gss = refl
-all-fields l (v ∷ vs) gss =
-    map-append joined (map (λ (rest : List (List ℕ × Value)). (l, v) ∷ rest) gss) (flat_map (λ v. map (λ (rest : List (List ℕ × Value)). (l, v) ∷ rest) gss) vs)
-    ∙ ap (λ pss. pss ++ map joined (flat_map (λ v. map (λ (rest : List (List ℕ × Value)). (l, v) ∷ rest) gss) vs)) (one-field l v gss)
-    ∙ ap (λ pss. map (λ ps. case_of v ++ ps) (map joined gss) ++ pss) (all-fields l vs gss)
-
--- the parameters of a field, then those of the fields after it
-leaves-first : (s : PathStep) (cs ds : List Leaf) →
-    flat_map leaf_values cs ++ flat_map leaf_values ds ≡ flat_map leaf_values (map (below s) cs ++ ds)
-leaves-first s cs ds =
-    ap (λ vs. vs ++ flat_map leaf_values ds) (sym (leaves-below s cs)) ∙ sym (flat_map-append leaf_values (map (below s) cs) ds)
-
-abbrev field_values : List (List ℕ × Known) → List (List ℕ × List Value)
-field_values ys =
-    map (λ (f : List ℕ × (CType × List Value)). (f.0, f.1.1)) (map (λ (f : List ℕ × CType). (f.0, (f.1, values f.1))) (map (λ (f : List ℕ × Known). (f.0, f.1.0)) ys))
-
-abbrev field_cells : List (List ℕ × Known) → List Leaf
-field_cells ys =
-    flat_map (λ (f : List ℕ × (CType × List Leaf)). map (below (Label f.0)) f.1.1) (map (λ (f : List ℕ × CType). (f.0, (f.1, cells_of_type f.1))) (map (λ (f : List ℕ × Known). (f.0, f.1.0)) ys))
-
-fields-in-order : (ys : List (List ℕ × Known)) → map joined (field_choices (field_values ys)) ≡ choices (flat_map leaf_values (field_cells ys))
-fields-in-order [] = refl
-fields-in-order (y ∷ ys) =
-    all-fields y.0 (values y.1.0) (field_choices (field_values ys))
-    ∙ ap (λ pss. both pss (map joined (field_choices (field_values ys)))) y.1.1
-    ∙ ap (both (choices (parameters y.1.0))) (fields-in-order ys)
-    ∙ sym (choices-append (parameters y.1.0) (flat_map leaf_values (field_cells ys)))
-    ∙ ap choices (leaves-first (Label y.0) (cells_of_type y.1.0) (field_cells ys))
-
--- the same for the entries of a table
-one-entry : (v : Param) (vs : List Param) (x : Value) (uss : List (List Value)) →
+one-entry : {A : Type 0} (v : A) (vs : List A) (x : Value) (uss : List (List Value)) →
     map joined (map (λ us. zip (v ∷ vs) us) (map (λ us. x ∷ us) uss)) ≡ map (λ ps. case_of x ++ ps) (map joined (map (λ us. zip vs us) uss))
 one-entry v vs x [] = refl
 one-entry v vs x (us ∷ uss) = ap (λ pss. (case_of x ++ joined (zip vs us)) ∷ pss) (one-entry v vs x uss)
 
-all-entries : (v : Param) (vs : List Param) (xs : List Value) (uss : List (List Value)) →
+all-entries : {A : Type 0} (v : A) (vs : List A) (xs : List Value) (uss : List (List Value)) →
     map joined (map (λ us. zip (v ∷ vs) us) (flat_map (λ x. map (λ us. x ∷ us) uss) xs)) ≡ both (map case_of xs) (map joined (map (λ us. zip vs us) uss))
 all-entries v vs [] uss = refl
 all-entries v vs (x ∷ xs) uss =
@@ -136,6 +100,30 @@ all-entries v vs (x ∷ xs) uss =
     ∙ ap (λ pss. pss ++ map joined (map (λ us. zip (v ∷ vs) us) (flat_map (λ x. map (λ us. x ∷ us) uss) xs))) (one-entry v vs x uss)
     ∙ ap (λ pss. map (λ ps. case_of x ++ ps) (map joined (map (λ us. zip vs us) uss)) ++ pss) (all-entries v vs xs uss)
 
+-- the parameters of a field, then those of the fields after it
+leaves-first : (s : PathStep) (cs ds : List Leaf) →
+    flat_map leaf_values cs ++ flat_map leaf_values ds ≡ flat_map leaf_values (map (below s) cs ++ ds)
+leaves-first s cs ds =
+    ap (λ vs. vs ++ flat_map leaf_values ds) (sym (leaves-below s cs)) ∙ sym (flat_map-append leaf_values (map (below s) cs) ds)
+
+abbrev field_values : List (List ℕ × Known) → List (List ℕ × (CType × List Value))
+field_values ys = map (λ (f : List ℕ × CType). (f.0, (f.1, values f.1))) (map (λ (f : List ℕ × Known). (f.0, f.1.0)) ys)
+
+abbrev field_cells : List (List ℕ × Known) → List Leaf
+field_cells ys =
+    flat_map (λ (f : List ℕ × (CType × List Leaf)). map (below (Label f.0)) f.1.1) (map (λ (f : List ℕ × CType). (f.0, (f.1, cells_of_type f.1))) (map (λ (f : List ℕ × Known). (f.0, f.1.0)) ys))
+
+fields-in-order : (ys : List (List ℕ × Known)) →
+    map joined (map (λ us. zip (keys_of (field_values ys)) us) (choices (map (λ f. f.1.1) (field_values ys)))) ≡ choices (flat_map leaf_values (field_cells ys))
+fields-in-order [] = refl
+fields-in-order (y ∷ ys) =
+    all-entries y.0 (keys_of (field_values ys)) (values y.1.0) (choices (map (λ f. f.1.1) (field_values ys)))
+    ∙ ap (λ pss. both pss (map joined (map (λ us. zip (keys_of (field_values ys)) us) (choices (map (λ f. f.1.1) (field_values ys)))))) y.1.1
+    ∙ ap (both (choices (parameters y.1.0))) (fields-in-order ys)
+    ∙ sym (choices-append (parameters y.1.0) (flat_map leaf_values (field_cells ys)))
+    ∙ ap choices (leaves-first (Label y.0) (cells_of_type y.1.0) (field_cells ys))
+
+-- the same for the entries of a table
 abbrev entry_cells : CType → List Param → List Leaf
 entry_cells T vs = flat_map (λ (v : Param). map (below (Cell v)) (cells_of_type T)) vs
 
@@ -165,7 +153,7 @@ by_layer : (x : C.CType-F CType) (y : C.CType-F Known) → map-CType Known CType
 by_layer x C.Str e = subst (λ (z : C.CType-F CType). InOrder (roll-CType z)) e (simp (case_values-roll, cells-roll, case_of-roll))
 by_layer x (C.Param w ys) e = subst (λ (z : C.CType-F CType). InOrder (roll-CType z)) e (simp (case_values-roll, cells-roll) (params _ ∙ ap (λ vs. choices (vs ∷ [])) (constructor-values values (types_of ys) ∙ sym (constructor-values cells_of_type (types_of ys)))))
 by_layer x (C.Ints n) e = subst (λ (z : C.CType-F CType). InOrder (roll-CType z)) e (simp (case_values-roll, cells-roll) (ap (map case_of) (sym (map-map param_value number_param (upto n))) ∙ params (map number_param (upto n))))
-by_layer x (C.Record ys) e = subst (λ (z : C.CType-F CType). InOrder (roll-CType z)) e (simp (case_values-roll, cells-roll) (records _ ∙ fields-in-order ys))
+by_layer x (C.Record ys) e = subst (λ (z : C.CType-F CType). InOrder (roll-CType z)) e (simp (case_values-roll, cells-roll) (ap (map case_of) (sym (map-map record_value (λ us. zip (keys_of (field_values ys)) us) (choices (map (λ f. f.1.1) (field_values ys))))) ∙ records _ ∙ fields-in-order ys))
 by_layer x (C.Table P T) e = subst (λ (z : C.CType-F CType). InOrder (roll-CType z)) e (simp (case_values-roll, cells-roll) (ap (map case_of) (sym (map-map table_value (λ us. zip (values_of P.0) us) (choices (map (λ (v : Param). values T.0) (values_of P.0))))) ∙ tables _ ∙ tables-in-order T.0 T.1 (values_of P.0)))
 by_layer x (C.Fun A B) e = subst (λ (z : C.CType-F CType). InOrder (roll-CType z)) e (simp (case_values-roll, cells-roll, case_of-roll))
 by_layer x C.TypeSort e = subst (λ (z : C.CType-F CType). InOrder (roll-CType z)) e (simp (case_values-roll, cells-roll, case_of-roll))

@@ -11,7 +11,7 @@ use Rattle.gft_syntax.specs.declared.linear.LinTerm.TheOpen as Lin-F
 use Rattle.gft_syntax.specs.declared.reference.Whole.{Whole}
 use Rattle.gft_syntax.specs.declared.token.SourceToken.{SourceToken}
 use Rattle.gft_syntax.specs.declared.value.Param.{Param}
-use Rattle.gft_model.specs.ConcreteTypes.{upto, choices, field_choices, values_of, count_of, product_of, sum_of}
+use Rattle.gft_model.specs.ConcreteTypes.{upto, choices, values_of, count_of, product_of, sum_of}
 use Rattle.gft_model.specs.Outcomes.{Results, none, also, stuck, plain, function, Environment, gives, stuck_at, outcomes, outcomes_of, followed_by, results_of}
 use Rattle.gft_model.specs.Source.{Tokens}
 use Rattle.gft_model.specs.ValueForms.{con_param}
@@ -56,12 +56,6 @@ length-choices (xs ∷ xss) =
     length-each (λ x. map (λ rest. x ∷ rest) (choices xss)) (length (choices xss)) (λ x. simp length-map) xs
     ∙ ap (λ n. length xs * n) (length-choices xss)
 
-length-field_choices : {A : Type 0} (fs : List (List ℕ × List A)) → length (field_choices fs) ≡ product_of (map (λ f. length f.1) fs)
-length-field_choices [] = refl
-length-field_choices (f ∷ fs) =
-    length-each (λ x. map (λ rest. (f.0, x) ∷ rest) (field_choices fs)) (length (field_choices fs)) (λ x. simp length-map) f.1
-    ∙ ap (λ n. length f.1 * n) (length-field_choices fs)
-
 -- a type whose values are counted
 abbrev Counted : CType → Type 0
 Counted T = length (values_of T) ≡ count_of T
@@ -76,7 +70,7 @@ arguments-counted [] = refl
 arguments-counted (y ∷ ys) = ap (λ n. n * product_of (map length (map values_of (map (λ (y : Known). y.0) ys)))) y.1 ∙ ap (λ n. count_of y.0 * n) (arguments-counted ys)
 
 fields-counted : (ys : List (List ℕ × Known)) →
-    product_of (map (λ (f : List ℕ × List Param). length f.1) (map (λ (f : List ℕ × CType). (f.0, values_of f.1)) (map (λ (f : List ℕ × Known). (f.0, f.1.0)) ys)))
+    product_of (map length (map (λ (f : List ℕ × List Param). f.1) (map (λ (f : List ℕ × CType). (f.0, values_of f.1)) (map (λ (f : List ℕ × Known). (f.0, f.1.0)) ys))))
     ≡ product_of (map (λ (f : List ℕ × ℕ). f.1) (map (λ (f : List ℕ × CType). (f.0, count_of f.1)) (map (λ (f : List ℕ × Known). (f.0, f.1.0)) ys)))
 fields-counted [] = refl
 fields-counted (y ∷ ys) = let h = y.1.1 in let k = fields-counted ys in cc
@@ -92,7 +86,7 @@ by_layer : (x : C.CType-F CType) (y : C.CType-F Known) → map-CType Known CType
 by_layer x C.Str e = subst (λ (z : C.CType-F CType). Counted (roll-CType z)) e (simp fold-roll-CType)
 by_layer x (C.Param w ys) e = subst (λ (z : C.CType-F CType). Counted (roll-CType z)) e (simp fold-roll-CType (constructors-counted ys))
 by_layer x (C.Ints n) e = subst (λ (z : C.CType-F CType). Counted (roll-CType z)) e (simp (fold-roll-CType, length-map) (length-upto n))
-by_layer x (C.Record ys) e = subst (λ (z : C.CType-F CType). Counted (roll-CType z)) e (simp (fold-roll-CType, length-map, length-field_choices) (fields-counted ys))
+by_layer x (C.Record ys) e = subst (λ (z : C.CType-F CType). Counted (roll-CType z)) e (simp (fold-roll-CType, length-map, length-choices) (fields-counted ys))
 by_layer x (C.Table P V) e = subst (λ (z : C.CType-F CType). Counted (roll-CType z)) e (simp fold-roll-CType)
 by_layer x (C.Fun A B) e = subst (λ (z : C.CType-F CType). Counted (roll-CType z)) e (simp fold-roll-CType)
 by_layer x C.TypeSort e = subst (λ (z : C.CType-F CType). Counted (roll-CType z)) e (simp fold-roll-CType)

@@ -1,7 +1,7 @@
 -- Concrete types: their values in order, their cells and cases, and which is a subtype of which.
 use Rattle.std.specs.Prelude.{◌≡◌, ℕ, zero, suc, ◌+◌, ◌*◌, List, [], ◌∷◌, ◌++◌, map, Bool, true, false, not, ◌≤◌, Option, Some, None, bytes_eq}
-use Rattle.std.specs.List.{filter, flat_map, list_all, range_with_len}
-use Rattle.std.specs.Map.{lookup}
+use Rattle.std.specs.List.{filter, flat_map, list_all, range_with_len, zip}
+use Rattle.std.specs.Map.{keys_of, lookup}
 use Rattle.std.specs.Option.{is_some, option_to_list}
 use Rattle.gft_syntax.specs.declared.ctype.CType.{CType, out-CType}
 use Rattle.gft_syntax.specs.declared.ctype.CType.TheOpen.{CType-F}
@@ -20,16 +20,11 @@ abbrev pub choices : {A : Type 0} → List (List A) → List (List A)
 choices [] = [] ∷ []
 choices (xs ∷ xss) = flat_map (λ x. map (λ rest. x ∷ rest) (choices xss)) xs
 
--- fields with one value of each list, in the order of choices
-abbrev pub field_choices : {A : Type 0} → List (List ℕ × List A) → List (List (List ℕ × A))
-field_choices [] = [] ∷ []
-field_choices (f ∷ fs) = flat_map (λ x. map (λ rest. (f.0, x) ∷ rest) (field_choices fs)) f.1
-
 -- what a layer's values are, from those of its parts
 abbrev pub values_step : CType-F (List Param) → List Param
 values_step (CType-F.Param w cs) = flat_map (λ c. map (con_param c.0) (choices c.1)) cs
 values_step (CType-F.Ints n) = map number_param (upto n)
-values_step (CType-F.Record fs) = map record_param (field_choices fs)
+values_step (CType-F.Record fs) = map (λ vs. record_param (zip (keys_of fs) vs)) (choices (map (λ f. f.1) fs))
 values_step d = []
 
 -- the values of a finite type in order: by constructor, then by arguments from left to right;

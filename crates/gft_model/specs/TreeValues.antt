@@ -1,6 +1,7 @@
 -- The bracketed values of a tree in a language that is given by its source terms.
 use Rattle.std.specs.Prelude.{ℕ, suc, List, [], ◌∷◌, ◌++◌, map, flat_map, zip, take, decimal, codes, option_and_then, slice_get}
 use Rattle.std.specs.List.{enumerate_from}
+use Rattle.std.specs.Map.{keys_of}
 use Rattle.std.specs.Option.{option_map_or, unwrap_or}
 use Rattle.gft_core.specs.declared.symbol.Sym.{Sym}
 use Rattle.gft_core.specs.declared.symbol.Sym.TheVariants.{Tok, Arg}
@@ -16,7 +17,7 @@ use Rattle.gft_syntax.specs.declared.value.Value.{Value}
 use Rattle.gft_syntax.specs.declared.value.Value.TheOpen.{Value-F}
 use Rattle.gft_syntax.specs.declared.value.Value.TheFolds.{fold-Value}
 use Rattle.gft_model.specs.Brackets.{Mark, grammar, integer, text, Piece, word, bracketed}
-use Rattle.gft_model.specs.ConcreteTypes.{upto, choices, field_choices, values_of, layer_values}
+use Rattle.gft_model.specs.ConcreteTypes.{upto, choices, values_of, layer_values}
 use Rattle.gft_model.specs.Languages.{typed_at, lin_type, outcomes_on, arguments_of, lin_outcomes}
 use Rattle.gft_model.specs.Outcomes.{Outcome, gives, given}
 use Rattle.gft_model.specs.Values.{string_leaves}
@@ -77,7 +78,7 @@ abbrev pub case_values_step : CType-F (CType × List Value) → List Value
 case_values_step CType-F.Str = string_value (Arg 0 0 ∷ []) ∷ []
 case_values_step (CType-F.Param w cs) = map param_value (layer_values (CType-F.Param w cs))
 case_values_step (CType-F.Ints n) = map (λ k. param_value (number_param k)) (upto n)
-case_values_step (CType-F.Record fs) = map record_value (field_choices (map (λ f. (f.0, f.1.1)) fs))
+case_values_step (CType-F.Record fs) = map (λ us. record_value (zip (keys_of fs) us)) (choices (map (λ f. f.1.1) fs))
 case_values_step (CType-F.Table P V) =
     let vs = values_of P.0 in map (λ us. table_value (zip vs us)) (choices (map (λ v. V.1) vs))
 case_values_step d = record_value [] ∷ []
