@@ -24,7 +24,8 @@ use Rattle.gft_syntax.specs.declared.term.Sort.TheVariants as Sort
 use Rattle.gft_syntax.specs.declared.term.Term.{Term, roll-Term}
 use Rattle.gft_syntax.specs.declared.term.Term.TheOpen as F
 use Rattle.gft_model.specs.ConcreteTypes.{HasLabels, field_of, fewer_labels, tables, numbers, functions, label, no_label, equal, values_of}
-use Rattle.gft_model.specs.ConcreteTyping.{empty_type, sort, Fits, FieldsHave, typed_given, typed_alone, IsData, IsType, Finds, Checks, Covers, patterns, passes, Takes, takes, takes_none, Suits, suits_by, overloaded, text_type, function_from, next_found, none_found, found, append, literal, number, same, cut, predef, application, applied_to, at_head, record_given, value_given, value_found, no_field, branches, branch, no_branch}
+use Rattle.gft_syntax.specs.declared.bind.Bind.TheVariants.{Variable}
+use Rattle.gft_model.specs.ConcreteTyping.{lambda, variable as local_variable, empty_type, sort, Fits, FieldsHave, typed_given, typed_alone, IsData, IsType, Finds, Checks, Covers, patterns, passes, Takes, takes, takes_none, Suits, suits_by, overloaded, text_type, function_from, next_found, none_found, found, append, literal, number, same, cut, predef, application, applied_to, at_head, record_given, value_given, value_found, no_field, branches, branch, no_branch}
 use Rattle.gft_model.specs.Items.{Item, alternative}
 use Rattle.gft_model.specs.Matching.{match_of, is_matched, parameter}
 use Rattle.std.specs.Map.{lookup}
@@ -187,6 +188,12 @@ module _ (items : List Item) where
       let k : false ≡ true = sym a ∙ ap (λ d. passes d (out-CType T)) (form-roll _) ∙ record-passes n_alone nowhere T refl h in cc
   record_lacks_s (empty_type a) h = let k = out-roll-CType C.TypeSort in cc
   record_lacks_s d h = absurd (apart-tags _ _ refl (same-tag (form-roll _) refl (check_form_is items d)))
+
+  -- \x, y -> x fits Str -> Str -> Str, and means one function in another
+  pub two_variables_fit : Checks items [] (roll-Term (F.Fun (Variable (codes "x") nowhere ∷ Variable (codes "y") nowhere ∷ []) (roll-Term (F.Var (Written (codes "x")) nowhere)) nowhere))
+      (function_type str_type (function_type str_type str_type)) (made (L.Lambda (Some (codes "x")) (made (L.Lambda (Some (codes "y")) (made (L.Var (codes "x")))))))
+  two_variables_fit = lambda (form-roll _) (out-roll-CType _) (lambda (form-roll _) (out-roll-CType _)
+      (found (ap (λ d. passes d (out-CType str_type)) (form-roll _)) (local_variable (form-roll _) refl) same))
 
   -- table {Sg => "a" ; Pl => "b"} fits Number => Str
   pub table_fits : Checks items [] (table_of (branch_of (codes "Sg") (codes "a") ∷ branch_of (codes "Pl") (codes "b") ∷ [])) (table_type number_of str_type)
