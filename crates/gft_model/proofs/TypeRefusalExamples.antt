@@ -192,3 +192,18 @@ pub overload_names_no_type : TypeFaults.BreaksTypes overloaded [] (whole (codes 
 overload_names_no_type =
     subst (λ p. TypeFaults.BreaksTypes overloaded [] (whole (codes "x")) oper_x (1 ∷ []) (refusal R.Unknown p (codes "f" ∷ [])))
     (ap layer_place (out-roll-Term _)) found_no_type
+
+-- oper f = overload {} : f alone takes no alternative
+abbrev no_alternatives : Flat
+no_alternatives = record exh {
+  params = [];
+  opers = record { whole = whole (codes "f"); judgement = J.Oper (named (codes "f") ∷ []) [] (D.Overload []) } ∷ [];
+}
+
+pub no_alternative_to_take : TypeFaults.BreaksTerm no_alternatives [] f_term TypingSites.found TypingSites.any_role R.NoOverload (codes "f" ∷ [])
+no_alternative_to_take = TypeFaults.no_alternative (λ e. cc)
+    (TypingSites.has_overload (at_head (λ f a p e. let k = form-roll (T.Var (WholeName (whole (codes "f"))) (here 3 13)) in cc)) (form-roll _) (inr refl))
+    none_found (λ k B u s. nothing_suits s)
+  where
+  nothing_suits : {k : ℕ} {B : CType} {u : LinTerm} → Suits (items_of no_alternatives) (whole (codes "f")) [] [] k B u → ⊥
+  nothing_suits (suits_by a b c) = cc

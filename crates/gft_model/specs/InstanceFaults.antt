@@ -16,7 +16,7 @@ use Rattle.gft_syntax.specs.declared.reference.Reference.TheVariants.{Whole as W
 use Rattle.gft_syntax.specs.declared.reference.Whole.{Whole}
 use Rattle.gft_syntax.specs.declared.term.Term.{Term, roll-Term}
 use Rattle.gft_syntax.specs.declared.term.Term.TheOpen as T
-use Rattle.gft_model.specs.ConcreteTyping.{IsType, Stands, a_parameter, an_oper, an_overload}
+use Rattle.gft_model.specs.ConcreteTyping.{IsType, Stands, a_parameter, an_oper}
 use Rattle.gft_model.specs.Flats.{AreMeanings, whole_of}
 use Rattle.gft_model.specs.JudgementOrder.{answered}
 use Rattle.gft_model.specs.JudgementTyping.{items}
@@ -25,7 +25,7 @@ use Rattle.gft_model.specs.Refusals.{Moment, refusal, name_moment}
 use Rattle.gft_model.specs.Resolution.{Names, resolved}
 use Rattle.gft_model.specs.TypeFaults.{BreaksSites}
 use Rattle.gft_model.specs.TypeForms.{form, sort_param}
-use Rattle.gft_model.specs.TypingSites.{any_role, type_site, judgement_sites, FoundFor}
+use Rattle.gft_model.specs.TypingSites.{any_role, type_site, judgement_sites, FoundFor, IsOverload}
 
 -- what is declared of an oper: its type, or those of the alternatives of an overload; of a parameter type
 -- that it is one
@@ -61,10 +61,10 @@ module _ (mods : List Module) (m : Module) (flat : Flat) where
   -- what the instance gives has another type; types are equal or not, whatever is a subtype of what
   pub data HasAnotherType (w : Whole) (names : Names) : Wanted → Type 0 where
     other_type : {t : _} (p : Place) {A B : _} → IsType (items flat) (resolved names t []) A →
-        ¬ (Stands (items flat) w an_overload) → FoundFor flat (roll-Term (T.Var (WholeName w) p)) [] B → A ≢ B →
+        ¬ (IsOverload flat w) → FoundFor flat (roll-Term (T.Var (WholeName w) p)) [] B → A ≢ B →
         HasAnotherType w names (a_type t)
-    overload_for_one : {t : _} → Stands (items flat) w an_overload → HasAnotherType w names (a_type t)
-    one_for_overload : {ts : _} → ¬ (Stands (items flat) w an_overload) → HasAnotherType w names (alternatives ts)
+    overload_for_one : {t : _} → IsOverload flat w → HasAnotherType w names (a_type t)
+    one_for_overload : {ts : _} → ¬ (IsOverload flat w) → HasAnotherType w names (alternatives ts)
     other_alternatives : {ts us As Bs : _} {f : FlatJudgement} → Contains flat.opers f → f.whole ≡ w →
         wanted_of f.judgement ≡ alternatives us → AllZip (λ t A. IsType (items flat) (resolved names t []) A) ts As →
         AllZip (IsType (items flat)) us Bs → As ≢ Bs → HasAnotherType w names (alternatives ts)

@@ -1,6 +1,6 @@
 -- Where the terms and patterns of a judgement stand when it is typed: in which scope, and with which type
 -- given, or found.
-use Rattle.std.specs.Prelude.{◌≡◌, ℕ, suc, List, [], ◌∷◌, ◌++◌, map, flat_map, Option, Some, None, slice_get, option_map}
+use Rattle.std.specs.Prelude.{◌≡◌, ◌⊎◌, ℕ, suc, List, [], ◌∷◌, ◌++◌, map, flat_map, Option, Some, None, slice_get, option_map}
 use Rattle.std.specs.List.{enumerate_from, filter_map}
 use Rattle.std.specs.Option.{option_map_or, unwrap_or}
 use Rattle.gft_syntax.specs.declared.bind.Bind.{Bind}
@@ -26,7 +26,7 @@ use Rattle.gft_syntax.specs.declared.term.Term.{Term}
 use Rattle.gft_syntax.specs.declared.term.Term.TheOpen as T
 use Rattle.gft_syntax.specs.Terms.{Layer}
 use Rattle.gft_model.specs.ConcreteTypes.{field_of, record_in, table_in, function_in}
-use Rattle.gft_model.specs.ConcreteTyping.{IsType, IsParameter, Finds, Defines, Spine, Stands, a_constructor, an_overload}
+use Rattle.gft_model.specs.ConcreteTyping.{IsType, IsParameter, Finds, Defines, Spine, Stands, a_constructor, an_overload, nothing}
 use Rattle.gft_model.specs.Items.{with_arguments}
 use Rattle.gft_model.specs.JudgementTyping.{items, HasGiven, IsSort}
 use Rattle.gft_model.specs.PatternTyping.{Scope, PatternFits, Constructs, pattern_form}
@@ -219,10 +219,13 @@ module _ (flat : Flat) where
   abbrev pub FoundFor : Term → Scope → CType → Type 0
   FoundFor e Γ A = (t : LinTerm) × Finds (items flat) Γ e A t
 
+  -- an overloaded oper; one without alternatives stands for nothing
+  abbrev pub IsOverload : Whole → Type 0
+  IsOverload w = Stands (items flat) w an_overload ⊎ Stands (items flat) w nothing
+
   -- the application's head is that overloaded oper, with its arguments
   pub data HasOverload (e : Term) (w : Whole) (es : List Term) : Type 0 where
-    has_overload : {h p : _} → Spine e [] h es → form h ≡ T.Var (WholeName w) p → Stands (items flat) w an_overload →
-        HasOverload e w es
+    has_overload : {h p : _} → Spine e [] h es → form h ≡ T.Var (WholeName w) p → IsOverload w → HasOverload e w es
 
   -- the constructor has arguments of these types, and is one of the parameter type
   pub data IsConstructorOf (c : Whole) (As : List CType) (R : CType) : Type 0 where
