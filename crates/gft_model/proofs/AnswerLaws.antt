@@ -1,4 +1,4 @@
--- An answer is determined, where imports and compilation are.
+-- An answer is determined.
 use Rattle.std.proofs.Common.{◌≡◌, refl, sym, ap, ◌∙◌, subst, ℕ, List, [], ◌∷◌, ◌++◌, slice_get, true, arith, length, flat_map}
 use Rattle.std.specs.Option.{option_map_or}
 use Rattle.std.specs.Fmt.{decimal}
@@ -21,10 +21,15 @@ use Rattle.gft_pmcfg.specs.declared.signature.Abstract.{Abstract}
 use Rattle.gft_model.specs.PortableFile.{file_bytes}
 use Rattle.gft_model.specs.Replies.{Makes, parsed, completed, too_long, linearized, unsolved, passed, Parses, Completes, Runs, done, next, refused, AreTexts, languages_for}
 use Rattle.gft_model.specs.Shell.{Held, Answer, Lacks, no_grammar, no_language, no_such_language, no_such_category, LacksFirst, here, later, IsFileOf, Does, PipeSteps, InOrder, Steps, IsAnswer, followed, whole, replying, refusing, ran, grammar_line}
-use Rattle.gft_syntax.specs.declared.flat.Flat.{Flat}
-use Rattle.gft_model.specs.States.{Kept, Languages, Loaded, State, Sources, Gives, IsImported, Joins, IsCompiled, StandsFor, language_of, added, kept_grammar}
+use Rattle.gft_model.specs.Import.{BreaksImport}
+use Rattle.gft_model.specs.Sessions.{Gives, IsImported, Joins, IsCompiled, StandsFor}
+use Rattle.gft_model.specs.States.{Kept, Languages, Loaded, State, language_of, added, kept_grammar}
 use Rattle.gft_model.proofs.CommandLaws.{in_turn_once, zip_once, line_once}
 use Rattle.gft_model.proofs.ReplyLaws.{parses_once, completes_once, texts_once}
+use Rattle.gft_model.proofs.CompiledLaws.{concrete_once}
+use Rattle.gft_model.proofs.LoadingLaws.{one_list_of_files}
+use Rattle.gft_model.proofs.RefusalOrder.{first-once}
+use Rattle.gft_model.proofs.SourcesDetermined.{part_once}
 use Rattle.gft_model.proofs.UnsolvedLaws.{reason_once}
 
 -- ANSWERS WITHOUT FAILURES
@@ -67,10 +72,10 @@ get_inserted files name bytes =
     ∙ ap (λ b. if b then Some bytes else get files name) ((eq_by_cmp_equiv nat_list_cmp_total).refl name)
 
 -- the file of a state gives the grammar that stands for it
-pub written_given : (S : Sources) (state : State) (files : Files) (names : List (List ℕ)) (name bytes : List ℕ)
-    → EndsIn portable_ending name → IsFileOf S state bytes
-    → (g : Grammar) × StandsFor S (Some g) state × Gives S (insert files name bytes) names name (kept_grammar g)
-written_given S state files names name bytes ends (g, stands, read) =
+pub written_given : (state : State) (files : Files) (names : List (List ℕ)) (name bytes : List ℕ)
+    → EndsIn portable_ending name → IsFileOf state bytes
+    → (g : Grammar) × StandsFor (Some g) state × Gives (insert files name bytes) names name (kept_grammar g)
+written_given state files names name bytes ends (g, stands, read) =
     (g, stands, Gives.portable g ends (get_inserted files name bytes) read)
 
 -- WHAT A COMMAND MAKES OF AN ITEM
@@ -162,134 +167,121 @@ lacks_first_once (later n d) (later m e) = lacks_first_once d e
 
 -- IMPORTS AND COMPILED GRAMMARS
 
--- any imports and compilation are determined: an import is not both accepted and refused, it has at most one refusal, each
--- of its files gives at most one part, and each language compiles to at most one concrete syntax
-pub record IsDetermined (S : Sources) : Type 0 where
-  pub apart : (files : Files) (names : List (List ℕ)) (r : Refusal) (loaded : List (List ℕ)) → S.accepts files names
-      → ¬ S.refuses files names r loaded
-  pub one_refusal : (files : Files) (names : List (List ℕ)) (r s : Refusal) (loaded others : List (List ℕ))
-      → S.refuses files names r loaded → S.refuses files names s others → (r ≡ s) × (loaded ≡ others)
-  pub one_part : (files : Files) (names : List (List ℕ)) (name : List ℕ) (p q : Loaded) → Gives S files names name p
-      → Gives S files names name q → p ≡ q
-  pub one_compiled : (a : Abstract) (flat : Flat) (name : List ℕ) (c d : Concrete) → S.compiles a flat name c
-      → S.compiles a flat name d → c ≡ d
+imported_once : {files : Files} {names : List (List ℕ)} {p q : Loaded} → IsImported files names p
+    → IsImported files names q → p ≡ q
+imported_once {files} {names} {p} {q} x y =
+    let parts = zip_once (λ name p q x y. part_once x y) names x.parts y.parts x.given y.given in
+    let found : Some p.abs ≡ Some q.abs
+    = sym x.abs ∙ ap (λ ps. slice_get (map (λ (l : Loaded). l.abs) ps) 0) parts ∙ y.abs in
+    let abs : p.abs ≡ q.abs = cc in
+    let languages = x.languages ∙ ap (λ ps. added [] (flat_map (λ (l : Loaded). l.languages) ps)) parts ∙ sym y.languages in
+    λ i. record { abs = abs i; languages = languages i }
 
-module _ (S : Sources) (determined : IsDetermined S) where
-  imported_once : {files : Files} {names : List (List ℕ)} {p q : Loaded} → IsImported S files names p
-      → IsImported S files names q → p ≡ q
-  imported_once {files} {names} {p} {q} x y =
-      let parts = zip_once (determined.one_part files names) names x.parts y.parts x.given y.given in
-      let found : Some p.abs ≡ Some q.abs
-      = sym x.abs ∙ ap (λ ps. slice_get (map (λ (l : Loaded). l.abs) ps) 0) parts ∙ y.abs in
-      let abs : p.abs ≡ q.abs = cc in
-      let languages = x.languages ∙ ap (λ ps. added [] (flat_map (λ (l : Loaded). l.languages) ps)) parts ∙ sym y.languages in
-      λ i. record { abs = abs i; languages = languages i }
+joins_once : {state : State} {new p q : Loaded} → Joins state new p → Joins state new q → p ≡ q
+joins_once Joins.first Joins.first = refl
+joins_once (Joins.equal e) (Joins.equal f) = refl
+joins_once (Joins.equal e) (Joins.other n) = absurd (n e)
+joins_once (Joins.other n) (Joins.equal e) = absurd (n e)
+joins_once (Joins.other n) (Joins.other m) = refl
 
-  joins_once : {state : State} {new p q : Loaded} → Joins state new p → Joins state new q → p ≡ q
-  joins_once Joins.first Joins.first = refl
-  joins_once (Joins.equal e) (Joins.equal f) = refl
-  joins_once (Joins.equal e) (Joins.other n) = absurd (n e)
-  joins_once (Joins.other n) (Joins.equal e) = absurd (n e)
-  joins_once (Joins.other n) (Joins.other m) = refl
+compiled_once : (a : Abstract) (l : List ℕ × Kept) (c d : Concrete) → IsCompiled a l c → IsCompiled a l d → c ≡ d
+compiled_once a l c d (IsCompiled.source x) (IsCompiled.source y) = concrete_once a _ _ c d x y
+compiled_once a l c d (IsCompiled.file e) (IsCompiled.file f) = refl
 
-  compiled_once : (a : Abstract) (l : List ℕ × Kept) (c d : Concrete) → IsCompiled S a l c → IsCompiled S a l d → c ≡ d
-  compiled_once a l c d (IsCompiled.source e x) (IsCompiled.source f y) = determined.one_compiled a _ _ c d x y
-  compiled_once a l c d (IsCompiled.file e) (IsCompiled.file f) = refl
+file_once : {state : State} {b c : List ℕ} → IsFileOf state b → IsFileOf state c → b ≡ c
+file_once (g, StandsFor.loaded {held} e x, b) (h, StandsFor.loaded f y, c) =
+    let concretes = zip_once (compiled_once held.abs) held.languages g.concretes h.concretes x y in
+    sym b.bytes_are ∙ ap (λ a. file_bytes a g.concretes) (e ∙ sym f) ∙ ap (file_bytes h.abs) concretes ∙ c.bytes_are
 
-  file_once : {state : State} {b c : List ℕ} → IsFileOf S state b → IsFileOf S state c → b ≡ c
-  file_once (g, StandsFor.loaded {held} e x, b) (h, StandsFor.loaded f y, c) =
-      let concretes = zip_once (compiled_once held.abs) held.languages g.concretes h.concretes x y in
-      sym b.bytes_are ∙ ap (λ a. file_bytes a g.concretes) (e ∙ sym f) ∙ ap (file_bytes h.abs) concretes ∙ c.bytes_are
+-- WHAT A PIPE DOES
 
-  -- WHAT A PIPE DOES
+-- no failed load or save is left out of the count
+one_is_some : {n : ℕ} → n ≡ 1 → n ≡ 0 → ⊥
+one_is_some e f = absurd (omega (arith, e, f))
 
-  -- no failed load or save is left out of the count
-  one_is_some : {n : ℕ} → n ≡ 1 → n ≡ 0 → ⊥
-  one_is_some e f = absurd (omega (arith, e, f))
+does_once : {held : Held} {verb : Verb} {argument : Argument} {x y : Answer} → Does held verb argument x
+    → Does held verb argument y → x.failures ≡ 0 → y.failures ≡ 0 → x ≡ y
+does_once {held} (Does.imports {joined} d j) (Does.imports {joined = other} e k) m n =
+    let same = joins_once (subst (λ n. Joins held.state n joined) (imported_once d e) j) k in
+    ap (λ x. replying (record held { state = Some x }) (grammar_line x ∷ [])) same
+does_once (Does.imports d j) (Does.import_refused {r} e l) m n = absurd (d.accepted e.moment r e.broken)
+does_once (Does.import_refused {r} d l) (Does.imports e k) m n = absurd (e.accepted d.moment r d.broken)
+does_once {held} (Does.import_refused {names} {loaded} {r} d l) (Does.import_refused {loaded = others} {r = s} e k) m n =
+    ap (λ x. refusing held x loaded) (first-once (BreaksImport held.files names) r s d e)
+    ∙ ap (refusing held s) (one_list_of_files held.files names loaded others l k)
+does_once (Does.load_failed d) e m n = absurd (one_is_some refl m)
+does_once d (Does.load_failed e) m n = absurd (one_is_some refl n)
+does_once (Does.save_failed d l k) e m n = absurd (one_is_some refl m)
+does_once d (Does.save_failed e l k) m n = absurd (one_is_some refl n)
+does_once Does.empties Does.empties m n = refl
+does_once Does.quits Does.quits m n = refl
+does_once {held} (Does.informs {g} e) (Does.informs {g = h} f) m n =
+    let same : g ≡ h = cc in ap (λ x. replying held (judgement_lines x.abs (λ n. true))) same
+does_once {held} (Does.informs_of {g} {name} e i) (Does.informs_of {g = h} f j) m n =
+    let same : g ≡ h = cc in ap (λ x. replying held (judgement_lines x.abs (bytes_eq name))) same
+does_once (Does.informs_of {g} {name} e i) (Does.unknown_name {g = h} f j) m n =
+    let same : g ≡ h = cc in absurd (i (ap (λ x. judgement_lines x.abs (bytes_eq name)) same ∙ j))
+does_once (Does.unknown_name {g} {name} e i) (Does.informs_of {g = h} f j) m n =
+    let same : g ≡ h = cc in absurd (j (ap (λ x. judgement_lines x.abs (bytes_eq name)) (sym same) ∙ i))
+does_once (Does.unknown_name e i) (Does.unknown_name f j) m n = refl
+does_once {held} (Does.writes {file} d l) (Does.writes e k) m n =
+    ap (λ b. replying (record held { files = insert held.files file b })
+        ((codes "wrote " ++ file ++ codes " " ++ decimal (length b) ++ codes " bytes") ∷ [])) (file_once d e)
+does_once (Does.writes d l) (Does.portable_too_long e k) m n = absurd (omega (arith, l, k, ap length (file_once d e)))
+does_once (Does.portable_too_long d l) (Does.writes e k) m n = absurd (omega (arith, l, k, ap length (file_once d e)))
+does_once (Does.portable_too_long d l) (Does.portable_too_long e k) m n = refl
 
-  does_once : {held : Held} {verb : Verb} {argument : Argument} {x y : Answer} → Does S held verb argument x
-      → Does S held verb argument y → x.failures ≡ 0 → y.failures ≡ 0 → x ≡ y
-  does_once {held} (Does.imports {joined} d j) (Does.imports {joined = other} e k) m n =
-      let same = joins_once (subst (λ n. Joins held.state n joined) (imported_once d e) j) k in
-      ap (λ x. replying (record held { state = Some x }) (grammar_line x ∷ [])) same
-  does_once (Does.imports d j) (Does.import_refused e) m n = absurd (determined.apart _ _ _ _ d.accepted e)
-  does_once (Does.import_refused d) (Does.imports e k) m n = absurd (determined.apart _ _ _ _ e.accepted d)
-  does_once {held} (Does.import_refused {loaded} d) (Does.import_refused {r = s} e) m n =
-      let same = determined.one_refusal _ _ _ _ _ _ d e in
-      ap (λ x. refusing held x loaded) same.0 ∙ ap (refusing held s) same.1
-  does_once (Does.load_failed d) e m n = absurd (one_is_some refl m)
-  does_once d (Does.load_failed e) m n = absurd (one_is_some refl n)
-  does_once (Does.save_failed d l k) e m n = absurd (one_is_some refl m)
-  does_once d (Does.save_failed e l k) m n = absurd (one_is_some refl n)
-  does_once Does.empties Does.empties m n = refl
-  does_once Does.quits Does.quits m n = refl
-  does_once {held} (Does.informs {g} e) (Does.informs {g = h} f) m n =
-      let same : g ≡ h = cc in ap (λ x. replying held (judgement_lines x.abs (λ n. true))) same
-  does_once {held} (Does.informs_of {g} {name} e i) (Does.informs_of {g = h} f j) m n =
-      let same : g ≡ h = cc in ap (λ x. replying held (judgement_lines x.abs (bytes_eq name))) same
-  does_once (Does.informs_of {g} {name} e i) (Does.unknown_name {g = h} f j) m n =
-      let same : g ≡ h = cc in absurd (i (ap (λ x. judgement_lines x.abs (bytes_eq name)) same ∙ j))
-  does_once (Does.unknown_name {g} {name} e i) (Does.informs_of {g = h} f j) m n =
-      let same : g ≡ h = cc in absurd (j (ap (λ x. judgement_lines x.abs (bytes_eq name)) (sym same) ∙ i))
-  does_once (Does.unknown_name e i) (Does.unknown_name f j) m n = refl
-  does_once {held} (Does.writes {file} d l) (Does.writes e k) m n =
-      ap (λ b. replying (record held { files = insert held.files file b })
-          ((codes "wrote " ++ file ++ codes " " ++ decimal (length b) ++ codes " bytes") ∷ [])) (file_once d e)
-  does_once (Does.writes d l) (Does.portable_too_long e k) m n = absurd (omega (arith, l, k, ap length (file_once d e)))
-  does_once (Does.portable_too_long d l) (Does.writes e k) m n = absurd (omega (arith, l, k, ap length (file_once d e)))
-  does_once (Does.portable_too_long d l) (Does.portable_too_long e k) m n = refl
+-- a command that does something by itself is given no item
+no_item : {held : Held} {verb : Verb} {argument : Argument} {x : Answer} {item : Item} → Does held verb argument x
+    → argument ≡ Given item → ⊥
+no_item (Does.imports d j) e = cc
+no_item (Does.import_refused d l) e = cc
+no_item (Does.load_failed d) e = cc
+no_item (Does.save_failed d l k) e = cc
+no_item Does.empties e = cc
+no_item Does.quits e = cc
+no_item (Does.informs d) e = cc
+no_item (Does.informs_of d n) e = cc
+no_item (Does.unknown_name d n) e = cc
+no_item (Does.writes d l) e = cc
+no_item (Does.portable_too_long d l) e = cc
 
-  -- a command that does something by itself is given no item
-  no_item : {held : Held} {verb : Verb} {argument : Argument} {x : Answer} {item : Item} → Does S held verb argument x
-      → argument ≡ Given item → ⊥
-  no_item (Does.imports d j) e = cc
-  no_item (Does.import_refused d) e = cc
-  no_item (Does.load_failed d) e = cc
-  no_item (Does.save_failed d l k) e = cc
-  no_item Does.empties e = cc
-  no_item Does.quits e = cc
-  no_item (Does.informs d) e = cc
-  no_item (Does.informs_of d n) e = cc
-  no_item (Does.unknown_name d n) e = cc
-  no_item (Does.writes d l) e = cc
-  no_item (Does.portable_too_long d l) e = cc
+-- ANSWERS
 
-  -- ANSWERS
+-- what a pipe answers where no load or save fails
+pub pipe_once : {held : Held} {read : Result (List Command) Refusal} {x y : Answer} → PipeSteps held read x → x.failures ≡ 0
+    → PipeSteps held read y → y.failures ≡ 0 → x ≡ y
+pipe_once PipeSteps.refused e PipeSteps.refused f = refl
+pipe_once {held} (PipeSteps.lacking d) e (PipeSteps.lacking g) f = ap (λ r. refusing held r []) (lacks_first_once d g)
+pipe_once (PipeSteps.lacking d) e (PipeSteps.done none g) f = absurd (none _ d)
+pipe_once (PipeSteps.lacking d) e (PipeSteps.runs none h i g) f = absurd (none _ d)
+pipe_once (PipeSteps.done none d) e (PipeSteps.lacking g) f = absurd (none _ g)
+pipe_once (PipeSteps.done none d) e (PipeSteps.done never g) f = does_once d g e f
+pipe_once (PipeSteps.done none d) e (PipeSteps.runs never h i g) f = absurd (no_item d i)
+pipe_once (PipeSteps.runs none h i d) e (PipeSteps.lacking g) f = absurd (none _ g)
+pipe_once (PipeSteps.runs none h i d) e (PipeSteps.done never g) f = absurd (no_item g i)
+pipe_once {held} (PipeSteps.runs {c} {cs} {g} {item} {result} none h i d) e
+    (PipeSteps.runs {g = k} {item = again} never j l m) f =
+    let states : g ≡ k = cc in
+    let items : item ≡ again = cc in
+    let moved = subst (λ x. Runs k (c ∷ cs) (x ∷ []) result) items (subst (λ x. Runs x (c ∷ cs) (item ∷ []) result) states d) in
+    ap (ran held) (runs_once k moved m)
 
-  -- what a pipe answers where no load or save fails
-  pub pipe_once : {held : Held} {read : Result (List Command) Refusal} {x y : Answer} → PipeSteps S held read x → x.failures ≡ 0
-      → PipeSteps S held read y → y.failures ≡ 0 → x ≡ y
-  pipe_once PipeSteps.refused e PipeSteps.refused f = refl
-  pipe_once {held} (PipeSteps.lacking d) e (PipeSteps.lacking g) f = ap (λ r. refusing held r []) (lacks_first_once d g)
-  pipe_once (PipeSteps.lacking d) e (PipeSteps.done none g) f = absurd (none _ d)
-  pipe_once (PipeSteps.lacking d) e (PipeSteps.runs none h i g) f = absurd (none _ d)
-  pipe_once (PipeSteps.done none d) e (PipeSteps.lacking g) f = absurd (none _ g)
-  pipe_once (PipeSteps.done none d) e (PipeSteps.done never g) f = does_once d g e f
-  pipe_once (PipeSteps.done none d) e (PipeSteps.runs never h i g) f = absurd (no_item d i)
-  pipe_once (PipeSteps.runs none h i d) e (PipeSteps.lacking g) f = absurd (none _ g)
-  pipe_once (PipeSteps.runs none h i d) e (PipeSteps.done never g) f = absurd (no_item g i)
-  pipe_once {held} (PipeSteps.runs {c} {cs} {g} {item} {result} none h i d) e
-      (PipeSteps.runs {g = k} {item = again} never j l m) f =
-      let states : g ≡ k = cc in
-      let items : item ≡ again = cc in
-      let moved = subst (λ x. Runs k (c ∷ cs) (x ∷ []) result) items (subst (λ x. Runs x (c ∷ cs) (item ∷ []) result) states d) in
-      ap (ran held) (runs_once k moved m)
-
-  -- a session has at most one answer to a line where no load or save fails
-  pub answer_once : (held : Held) (line : List ℕ) (x y : Answer) → IsAnswer S held line x → IsAnswer S held line y → x ≡ y
-  answer_once held line x y d e = steps_once d.0 d.1 e.0 e.1 where
-    steps_once : {a b : Answer} → Steps S held line a → a.failures ≡ 0 → Steps S held line b → b.failures ≡ 0 → a ≡ b
-    steps_once (Steps.too_long l) e (Steps.too_long m) f = refl
-    steps_once (Steps.too_long l) e (Steps.not_utf8 m u) f = absurd (omega (arith, l, m))
-    steps_once (Steps.too_long l) e (Steps.read m u d s) f = absurd (omega (arith, l, m))
-    steps_once (Steps.not_utf8 l u) e (Steps.too_long m) f = absurd (omega (arith, l, m))
-    steps_once (Steps.not_utf8 l u) e (Steps.not_utf8 m v) f = refl
-    steps_once (Steps.not_utf8 l u) e (Steps.read m v d s) f = absurd (u v)
-    steps_once (Steps.read l u d s) e (Steps.too_long m) f = absurd (omega (arith, l, m))
-    steps_once (Steps.read l u d s) e (Steps.not_utf8 m v) f = absurd (v u)
-    steps_once (Steps.read {reads} {answers} l u d s) e (Steps.read {reads = others} {answers = again} m v i t) f =
-        let same = line_once (chars line) reads others d i in
-        let answered = order_of_answers (λ h r a b x y z w. pipe_once x y z w)
-            (subst (λ rs. InOrder (PipeSteps S) held rs answers) same s)
-        (no_failures held answers e) t (no_failures held again f) in
-        ap (whole held) answered
+-- a session has at most one answer to a line where no load or save fails
+pub answer_once : (held : Held) (line : List ℕ) (x y : Answer) → IsAnswer held line x → IsAnswer held line y → x ≡ y
+answer_once held line x y d e = steps_once d.0 d.1 e.0 e.1 where
+  steps_once : {a b : Answer} → Steps held line a → a.failures ≡ 0 → Steps held line b → b.failures ≡ 0 → a ≡ b
+  steps_once (Steps.too_long l) e (Steps.too_long m) f = refl
+  steps_once (Steps.too_long l) e (Steps.not_utf8 m u) f = absurd (omega (arith, l, m))
+  steps_once (Steps.too_long l) e (Steps.read m u d s) f = absurd (omega (arith, l, m))
+  steps_once (Steps.not_utf8 l u) e (Steps.too_long m) f = absurd (omega (arith, l, m))
+  steps_once (Steps.not_utf8 l u) e (Steps.not_utf8 m v) f = refl
+  steps_once (Steps.not_utf8 l u) e (Steps.read m v d s) f = absurd (u v)
+  steps_once (Steps.read l u d s) e (Steps.too_long m) f = absurd (omega (arith, l, m))
+  steps_once (Steps.read l u d s) e (Steps.not_utf8 m v) f = absurd (v u)
+  steps_once (Steps.read {reads} {answers} l u d s) e (Steps.read {reads = others} {answers = again} m v i t) f =
+      let same = line_once (chars line) reads others d i in
+      let answered = order_of_answers (λ h r a b x y z w. pipe_once x y z w)
+          (subst (λ rs. InOrder PipeSteps held rs answers) same s)
+      (no_failures held answers e) t (no_failures held again f) in
+      ap (whole held) answered

@@ -25,7 +25,7 @@ use Rattle.gft_model.specs.Runs.{Strings, filled}
 use Rattle.gft_model.specs.Shell as shell
 use Rattle.gft_model.specs.Shell.{Held, replying, LacksFirst, Does, IsAnswer}
 use Rattle.gft_model.specs.Solutions.{IsSolution}
-use Rattle.gft_model.specs.States.{Sources, Loaded, State, of_file, language_of}
+use Rattle.gft_model.specs.States.{Loaded, State, of_file, language_of}
 use Rattle.gft_model.specs.Typing as typing
 use Rattle.gft_model.specs.Typing.{HasType, IsAdmitted}
 use Rattle.gft_model.proofs.Grammars.{twice, twice_eng, whole}
@@ -108,10 +108,10 @@ lacks_nothing r (shell.here (shell.no_such_category e i l f)) = cc
 lacks_nothing r (shell.later n d) = elim d [ ]
 
 -- the answer: two lines
-answered : (S : Sources) (files : Files) → IsAnswer S (record { state = Some loaded; files = files }) (codes "l Dup A")
+answered : (files : Files) → IsAnswer (record { state = Some loaded; files = files }) (codes "l Dup A")
     (replying (record { state = Some loaded; files = files }) (codes "a a" ∷ codes "b b" ∷ []))
 unfolding chars lib.Utf8.encode
-answered S files =
+answered files =
     (shell.read (omega arith) (codes "l Dup A", (refl, refl)) (line, tt)
     (shell.more (shell.runs lacks_nothing refl refl
     (next _ (commands.more (linearized (texts ∷ []) refl (dup_a, solution) refl (are_texts, tt)) commands.none) done))

@@ -10,7 +10,6 @@ use Rattle.gft_model.specs.Commands.{Import, Quit, AreFileNames, of_import, sour
 use Rattle.gft_model.specs.Output.{none, a_file, only_files, an_out, an_out_is, a_count, Mode, make, Asks, for_session, to_make, for_workload, usage_line, unbegun, bad_names, Output, wrong_call, counted, lines, file_lines}
 use Rattle.gft_model.specs.Shell as shell
 use Rattle.gft_model.specs.Shell.{replying}
-use Rattle.gft_model.specs.States.{Sources}
 use Rattle.gft_model.proofs.ShellExamples.{quits_first}
 
 abbrev gfs : List ℕ
@@ -38,9 +37,9 @@ no_files (to_make (a_file is d)) = cc
 no_files (to_make (an_out is d)) = elim d [ ]
 no_files (for_workload d count) = elim d [ ]
 
-usage : (S : Sources) (input : List ℕ) (files : Files)
-    → Output S (gfs ∷ codes "--make" ∷ codes "T.gft" ∷ []) input files (replying (unbegun files) (usage_line ∷ []) ∷ [])
-usage S input files = wrong_call (λ mode asks. no_files asks)
+usage : (input : List ℕ) (files : Files)
+    → Output (gfs ∷ codes "--make" ∷ codes "T.gft" ∷ []) input files (replying (unbegun files) (usage_line ∷ []) ∷ [])
+usage input files = wrong_call (λ mode asks. no_files asks)
 
 -- so is a workload of no sentence
 no_sentence : {mode : Mode} → ¬ Asks (gfs ∷ codes "--workload" ∷ codes "0" ∷ []) mode
@@ -49,27 +48,27 @@ no_sentence (to_make (a_file is d)) = cc
 no_sentence (for_workload (a_count is none) count) = cc
 
 -- a workload of 200 sentences
-sentences : (S : Sources) (input : List ℕ) (files : Files) → Output S (gfs ∷ codes "--workload" ∷ codes "200" ∷ []) input files
+sentences : (input : List ℕ) (files : Files) → Output (gfs ∷ codes "--workload" ∷ codes "200" ∷ []) input files
     (replying (unbegun files) (codes "sentences 200" ∷ codes "words 8000" ∷ codes "trees 3200" ∷ codes "same 3200" ∷ []) ∷ [])
 unfolding digits
-sentences S input files = counted (for_workload (a_count refl none) refl)
+sentences input files = counted (for_workload (a_count refl none) refl)
 
 -- a file name of another ending is refused, and the session goes on to its lines
 other_ending : ¬ AreFileNames Import (codes "a" ∷ [])
 other_ending (of_import ends) = ⊎_elim {C = ⊥} (λ e. absurd (omega (arith, ap length e.1 ∙ length-append e.0 source_ending)))
     (λ e. absurd (omega (arith, ap length e.1 ∙ length-append e.0 portable_ending))) (ends 0 [] (omega arith))
 
-refused_file : (S : Sources) (files : Files) → Output S (gfs ∷ codes "a" ∷ []) [] files (record {
+refused_file : (files : Files) → Output (gfs ∷ codes "a" ∷ []) [] files (record {
   reply = codes "refused BadArgument" ++ 10 ∷ [];
   refused = true;
   failures = 0;
   ends = false;
   after = unbegun files;
 } ∷ [])
-refused_file S files = file_lines (for_session (a_file refl none)) (bad_names other_ending) shell.none
+refused_file files = file_lines (for_session (a_file refl none)) (bad_names other_ending) shell.none
 
 -- a session without files: the line behind `quit` is not answered
-short : (S : Sources) (files : Files) → Output S (gfs ∷ []) (codes "frob" ++ 10 ∷ codes "q" ++ 10 ∷ codes "e") files
+short : (files : Files) → Output (gfs ∷ []) (codes "frob" ++ 10 ∷ codes "q" ++ 10 ∷ codes "e") files
     (record {
       reply = codes "refused UnknownCommand: frob" ++ 10 ∷ [];
       refused = true;
@@ -78,9 +77,9 @@ short : (S : Sources) (files : Files) → Output S (gfs ∷ []) (codes "frob" ++
       after = unbegun files;
     } ∷ record { reply = []; refused = false; failures = 0; ends = true; after = unbegun files } ∷ [])
 unfolding chars lib.Utf8.encode
-short S files =
+short files =
     let frob = commands.pipe_refused (commands.refused (commands.not_called refl)) in
     let ends = commands.pipe (commands.more (commands.read refl commands.of_quit) commands.none) commands.last in
     lines (for_session none)
     (shell.more (shell.read (omega arith) (codes "frob", (refl, refl)) (frob, tt) (shell.more shell.refused refl shell.none)) refl
-    (shell.last (shell.read (omega arith) (codes "q", (refl, refl)) (ends, tt) (quits_first S _ [])) refl))
+    (shell.last (shell.read (omega arith) (codes "q", (refl, refl)) (ends, tt) (quits_first _ [])) refl))

@@ -14,7 +14,8 @@ use Rattle.gft_model.specs.Refusals.{placeless}
 use Rattle.gft_model.specs.PortableFile.{file_of}
 use Rattle.gft_model.specs.Shell.{Held, grammar_line, refusing, replying, no_grammar, no_language, no_such_language, no_such_category, LacksFirst, here, later, Does, empties, quits, writes, save_failed, PipeSteps, done, lacking, InOrder, none, last, more, read, IsAnswer}
 use Rattle.gft_model.specs.Shell as shell
-use Rattle.gft_model.specs.States.{Sources, State, Kept, added, StandsFor, loaded, of_file, file}
+use Rattle.gft_model.specs.Sessions.{StandsFor, loaded, file}
+use Rattle.gft_model.specs.States.{State, Kept, added, of_file}
 use Rattle.gft_model.proofs.CommandExamples as lines
 use Rattle.gft_model.proofs.CommandExamples.{command, empty}
 use Rattle.gft_model.proofs.GrammarExamples.{tiny, tiny_is_read}
@@ -29,11 +30,11 @@ lacks_nothing needs keys r (here (no_such_language e i l f)) = cc
 lacks_nothing needs keys r (here (no_such_category e i l f)) = cc
 lacks_nothing needs keys r (later n d) = elim d [ ]
 
-empties_alone : (S : Sources) (held : Held) → PipeSteps S held empty (replying (record held { state = None }) [])
-empties_alone S held = done (lacks_nothing (λ i m q. m refl) refl) empties
+empties_alone : (held : Held) → PipeSteps held empty (replying (record held { state = None }) [])
+empties_alone held = done (lacks_nothing (λ i m q. m refl) refl) empties
 
 -- a refused pipe stands between two others, and its line is the reply
-one_refusal : (S : Sources) (held : Held) → IsAnswer S held (codes "e ; frob ; e") (record {
+one_refusal : (held : Held) → IsAnswer held (codes "e ; frob ; e") (record {
   reply = codes "refused UnknownCommand: frob" ++ 10 ∷ [];
   refused = true;
   failures = 0;
@@ -41,20 +42,20 @@ one_refusal : (S : Sources) (held : Held) → IsAnswer S held (codes "e ; frob ;
   after = record held { state = None };
 })
 unfolding chars lib.Utf8.encode
-one_refusal S held =
+one_refusal held =
     (read (omega arith) (codes "e ; frob ; e", (refl, refl)) lines.line
-    (more (empties_alone S held) refl (more shell.refused refl (more (empties_alone S _) refl none))), refl)
+    (more (empties_alone held) refl (more shell.refused refl (more (empties_alone _) refl none))), refl)
 
 -- an empty session has no grammar
-nothing_to_parse : (S : Sources) (files : Files) → PipeSteps S (record { state = None; files = files })
+nothing_to_parse : (files : Files) → PipeSteps (record { state = None; files = files })
     (Ok (command Parse [] (Given (a_text [])) ∷ []))
     (refusing (record { state = None; files = files }) (placeless NoGrammar []) [])
-nothing_to_parse S files = lacking (here (no_grammar refl (λ e. cc) (λ e. cc) (λ e. cc)))
+nothing_to_parse files = lacking (here (no_grammar refl (λ e. cc) (λ e. cc) (λ e. cc)))
 
 -- nothing runs after `quit`
-pub quits_first : (S : Sources) (held : Held) (reads : List (Result (List Command) Refusal))
-    → InOrder (PipeSteps S) held (Ok (command Quit [] Nothing ∷ []) ∷ reads) (record (replying held []) { ends = true } ∷ [])
-quits_first S held reads = last (done (lacks_nothing (λ i m q. q refl) refl) quits) refl
+pub quits_first : (held : Held) (reads : List (Result (List Command) Refusal))
+    → InOrder PipeSteps held (Ok (command Quit [] Nothing ∷ []) ∷ reads) (record (replying held []) { ends = true } ∷ [])
+quits_first held reads = last (done (lacks_nothing (λ i m q. q refl) refl) quits) refl
 
 -- a session with the grammar of one sentence
 abbrev tiny_state : State
@@ -80,15 +81,15 @@ replaced : map (λ (l : List ℕ × Kept). l.0) (added [] ((codes "B", of_file e
 replaced = refl
 
 -- its file is written
-tiny_written : (S : Sources) (files : Files) → Does S (record { state = tiny_state; files = files }) WritePortable
+tiny_written : (files : Files) → Does (record { state = tiny_state; files = files }) WritePortable
     (commands.FileNames (codes "T.gft" ∷ []))
     (replying (record { state = tiny_state; files = insert files (codes "T.gft") (file_of tiny) })
     (codes "wrote T.gft 133 bytes" ∷ []))
 unfolding digits
-tiny_written S files = writes (tiny, loaded refl (file refl, tt), tiny_is_read) (omega arith)
+tiny_written files = writes (tiny, loaded refl (file refl, tt), tiny_is_read) (omega arith)
 
 -- where the save fails, the state stays and the reply names the file; here its content is as before
-tiny_not_saved : (S : Sources) (files : Files) → Does S (record { state = tiny_state; files = files }) WritePortable
+tiny_not_saved : (files : Files) → Does (record { state = tiny_state; files = files }) WritePortable
     (commands.FileNames (codes "T.gft" ∷ [])) (record {
       reply = codes "refused CannotWrite: T.gft" ++ 10 ∷ [];
       refused = true;
@@ -96,8 +97,8 @@ tiny_not_saved : (S : Sources) (files : Files) → Does S (record { state = tiny
       ends = false;
       after = record { state = tiny_state; files = files };
     })
-tiny_not_saved S files = save_failed (tiny, loaded refl (file refl, tt), tiny_is_read) (omega arith) (λ name other. refl)
+tiny_not_saved files = save_failed (tiny, loaded refl (file refl, tt), tiny_is_read) (omega arith) (λ name other. refl)
 
 -- a compiled grammar does not stand for the empty state
-tiny_is_not_empty : (S : Sources) → ¬ StandsFor S (Some tiny) None
-tiny_is_not_empty S d = elim d [ ]
+tiny_is_not_empty : ¬ StandsFor (Some tiny) None
+tiny_is_not_empty d = elim d [ ]

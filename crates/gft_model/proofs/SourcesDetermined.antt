@@ -1,4 +1,4 @@
--- The imports of the language are determined.
+-- What a file gives in an import is determined.
 use Rattle.std.proofs.Common.{◌≡◌, sym, ap, ◌∙◌, subst, ℕ, List, [], ◌∷◌, Some, true, false}
 use Rattle.std.specs.Prelude.{map}
 use Rattle.gft_io.specs.Outside.{Files}
@@ -8,17 +8,15 @@ use Rattle.gft_syntax.specs.declared.flat.Flat.{Flat}
 use Rattle.gft_syntax.specs.declared.module.Module.{Module}
 use Rattle.gft_model.specs.Commands.{EndsIn, source_ending}
 use Rattle.gft_model.specs.AbstractParts.{IsAbstractPart}
-use Rattle.gft_model.specs.Import.{BreaksImport, sources, HasPart, of_its_source, of_portable, HasLanguage, of_module, GivesPart, abstract_part, with_language, IsView, AreTypings}
+use Rattle.gft_model.specs.Import.{HasPart, of_its_source, of_portable, HasLanguage, of_module, GivesPart, abstract_part, with_language, IsView, AreTypings}
 use Rattle.gft_model.specs.Loading.{Loading, base_of, loaded, LoadsNamed, nothing_loaded}
 use Rattle.gft_model.specs.Modules.{is_abstract, module_named}
-use Rattle.gft_model.specs.States.{Loaded, of_file, of_source, Gives, source, portable}
+use Rattle.gft_model.specs.Sessions.{Gives, source, portable}
+use Rattle.gft_model.specs.States.{Loaded, of_file, of_source}
 use Rattle.gft_model.proofs.AbstractLaws.{abstract_once}
-use Rattle.gft_model.proofs.AnswerLaws.{IsDetermined}
-use Rattle.gft_model.proofs.CompiledLaws.{concrete_once}
 use Rattle.gft_model.proofs.FlatLaws.{flat_once, typings_once}
-use Rattle.gft_model.proofs.LoadingLaws.{endings_apart, named_once, one_list_of_files}
+use Rattle.gft_model.proofs.LoadingLaws.{endings_apart, named_once}
 use Rattle.gft_model.proofs.NoFlaw.{reads_once}
-use Rattle.gft_model.proofs.RefusalOrder.{first-once}
 
 -- what is loaded
 loaded_once : {files : Files} {names : List (List ℕ)} {s t : Loading} → LoadsNamed files nothing_loaded names (loaded s)
@@ -71,8 +69,8 @@ source_part_once {files} {name = name} ends (with_language {a = a} l v p) (with_
     let language = language_once v (subst (λ s. HasLanguage s.modules name lang flat) same w) in
     λ j. record { abs = part j; languages = (language.0 j, of_source (language.1 j)) ∷ [] }
 
-part_once : {files : Files} {names : List (List ℕ)} {name : List ℕ} {p q : Loaded} → Gives sources files names name p
-    → Gives sources files names name q → p ≡ q
+pub part_once : {files : Files} {names : List (List ℕ)} {name : List ℕ} {p q : Loaded} → Gives files names name p
+    → Gives files names name q → p ≡ q
 part_once (source e x) (source f y) = source_part_once e x y
 part_once (source e x) (portable h f c y) = absurd (endings_apart e f)
 part_once (portable g e b x) (source f y) = absurd (endings_apart f e)
@@ -81,14 +79,3 @@ part_once (portable {bytes} g e b x) (portable {bytes = others} h f c y) =
     let both = reads_once g.abs h.abs g.concretes h.concretes x.grammar.fits y.grammar.fits
     (x.bytes_are ∙ same ∙ sym y.bytes_are) in
     λ i. record { abs = both.0 i; languages = map (λ (l : Concrete). (l.name, of_file l)) (both.1 i) }
-
-pub sources_determined : IsDetermined sources
-sources_determined = record {
-  apart = λ files names r loaded accepted refuses. accepted refuses.0.moment r refuses.0.broken;
-  one_refusal = λ files names r s loaded others x y. (
-    first-once (BreaksImport files names) r s x.0 y.0,
-    one_list_of_files files names loaded others x.1 y.1,
-  );
-  one_part = λ files names name p q x y. part_once x y;
-  one_compiled = concrete_once;
-}

@@ -9,7 +9,6 @@ use Rattle.gft_rules.specs.declared.refusal.Refusal.{Refusal}
 use Rattle.gft_syntax.specs.declared.flat.Flat.{Flat}
 use Rattle.gft_io.specs.Outside.{Files}
 use Rattle.gft_model.specs.Commands.{Item, Command, ReadsLine, EndsIn, portable_ending}
-use Rattle.gft_model.specs.Import.{sources}
 use Rattle.gft_model.specs.Compiled.{Compiles}
 use Rattle.gft_model.specs.Loading.{HasFiles}
 use Rattle.gft_model.specs.Laws.{AreNamedApart}
@@ -17,7 +16,8 @@ use Rattle.gft_model.specs.Output.{unbegun, Output}
 use Rattle.gft_model.specs.Replies.{Parses, Completes, AreTexts}
 use Rattle.gft_model.specs.Shell.{Held, Answer, whole, IsAnswer, IsFileOf}
 use Rattle.gft_model.specs.Skeleton.{IsSkeleton}
-use Rattle.gft_model.specs.States.{Kept, State, language_of, Gives, StandsFor, kept_grammar}
+use Rattle.gft_model.specs.Sessions.{Gives, StandsFor}
+use Rattle.gft_model.specs.States.{Kept, State, language_of, kept_grammar}
 use Rattle.gft_model.specs.Unsolved.{IsWrongAt}
 
 -- the characters of a line are read in at most one way
@@ -60,8 +60,8 @@ SkeletonIsRight =
 abbrev pub WrittenIsGiven : Type 0
 WrittenIsGiven =
     (state : State) (files : Files) (names : List (List ℕ)) (name bytes : List ℕ) → EndsIn portable_ending name
-    → IsFileOf sources state bytes → (g : Grammar) × StandsFor sources (Some g) state
-    × Gives sources (insert files name bytes) names name (kept_grammar g)
+    → IsFileOf state bytes → (g : Grammar) × StandsFor (Some g) state
+    × Gives (insert files name bytes) names name (kept_grammar g)
 
 -- the files that an import loads are determined, in their order
 abbrev pub LoadedFilesAreDetermined : Type 0
@@ -78,11 +78,11 @@ CompiledIsDetermined =
 -- a session has at most one answer to a line in which no load or save fails
 abbrev pub SessionAnswersOnce : Type 0
 SessionAnswersOnce =
-    (held : Held) (line : List ℕ) (x y : Answer) → IsAnswer sources held line x → IsAnswer sources held line y → x ≡ y
+    (held : Held) (line : List ℕ) (x y : Answer) → IsAnswer held line x → IsAnswer held line y → x ≡ y
 
 -- and a run in which none fails at most one output
 abbrev pub OutputIsDetermined : Type 0
 OutputIsDetermined =
-    (words : List (List ℕ)) (input : List ℕ) (files : Files) (xs ys : List Answer) → Output sources words input files xs
-    → (whole (unbegun files) xs).failures ≡ 0 → Output sources words input files ys
+    (words : List (List ℕ)) (input : List ℕ) (files : Files) (xs ys : List Answer) → Output words input files xs
+    → (whole (unbegun files) xs).failures ≡ 0 → Output words input files ys
     → (whole (unbegun files) ys).failures ≡ 0 → xs ≡ ys

@@ -7,19 +7,18 @@ use Rattle.gft_model.specs.AbstractFaults.{IsAmong, BreaksAbstract}
 use Rattle.gft_model.specs.AbstractParts.{IsAbstractPart}
 use Rattle.gft_model.specs.Commands.{EndsIn, portable_ending}
 use Rattle.gft_model.specs.CompileFaults.{BreaksCompiling}
-use Rattle.gft_model.specs.Compiled.{Compiles}
 use Rattle.gft_model.specs.Flats.{AreListed, HasOfPart, IsFlat, functions}
 use Rattle.gft_model.specs.HeaderFaults.{BreaksHeader, Redefines}
 use Rattle.gft_model.specs.InstanceFaults.{BreaksInstance}
 use Rattle.gft_model.specs.Items.{items_of}
 use Rattle.gft_model.specs.JudgementOrder.{Turns, HasTyped, HasNew, IsMet, typed_again}
 use Rattle.gft_model.specs.JudgementTyping.{IsTyped}
-use Rattle.gft_model.specs.Loading.{base_of, Loading, loaded, refused, LoadsNamed, nothing_loaded, HasFiles}
+use Rattle.gft_model.specs.Loading.{base_of, Loading, loaded, refused, LoadsNamed, nothing_loaded}
 use Rattle.gft_model.specs.Modules.{is_abstract, is_interface, is_incomplete, header_name, header_mentions, module_named, names_of}
 use Rattle.gft_model.specs.NameFaults.{AreConstructors, BreaksNames}
 use Rattle.gft_model.specs.PortableFile
-use Rattle.gft_model.specs.Refusals.{Moment, IsFirst, IsAccepted, placeless, place_moment, name_moment, at_name, modules_moment}
-use Rattle.gft_model.specs.States.{Loaded, Sources, of_source}
+use Rattle.gft_model.specs.Refusals.{Moment, placeless, place_moment, name_moment, at_name, modules_moment}
+use Rattle.gft_model.specs.States.{Loaded, of_source}
 use Rattle.gft_model.specs.TypeFaults.{BreaksTypes}
 use Rattle.gft_pmcfg.specs.declared.grammar.Grammar.{Grammar}
 use Rattle.gft_pmcfg.specs.declared.signature.Abstract.{Abstract as AbstractSyntax}
@@ -129,13 +128,3 @@ pub data GivesPart (files : Files) (names : List (List ℕ)) (file : List ℕ) :
   with_language : {s : Loading} {lang flat a : _} → LoadsNamed files nothing_loaded names (loaded s) →
       HasLanguage s.modules file lang flat → HasPart files s.modules file a →
       GivesPart files names file (record { abs = a; languages = (lang, of_source flat) ∷ [] })
-
--- the imports and the compilation of sources that the answers of a session speak of
-abbrev pub sources : Sources
-sources = record {
-  accepts = λ files names. IsAccepted (BreaksImport files names);
-  refuses = λ files names r loaded_files. IsFirst (BreaksImport files names) r × HasFiles files names loaded_files;
-  loads = ComesTo;
-  gives = GivesPart;
-  compiles = Compiles;
-}

@@ -56,6 +56,7 @@ pub mod Commands
 pub mod States
 pub mod Unsolved
 pub mod AbstractInfo
+pub mod Sessions
 pub mod Replies
 pub mod Shell
 pub mod Output

@@ -8,7 +8,6 @@ use Rattle.gft_rules.specs.declared.rule.Rule.TheVariants.{BadArgument}
 use Rattle.gft_model.specs.Commands.{Verb, Import, WritePortable, AreFileNames, is_decimal_to, begins_with_hyphen, FileNames}
 use Rattle.gft_model.specs.Refusals.{placeless}
 use Rattle.gft_model.specs.Shell.{Held, Answer, replying, refusing, InOrder, PipeSteps, Steps}
-use Rattle.gft_model.specs.States.{Sources}
 
 -- a file, or an option's value that is the next word, does not begin with a hyphen, or is the hyphen alone
 abbrev pub is_plain : List ℕ → Bool
@@ -56,24 +55,23 @@ workload_lines n =
 abbrev pub unbegun : Files → Held
 unbegun files = record { state = None; files = files }
 
-module _ (S : Sources) where
-  -- what a command with file names of the program's words answers; a name of another ending is refused
-  pub data FilesStep (held : Held) (verb : Verb) (names : List (List ℕ)) : Answer → Type 0 where
-    good_names : {a : _} → AreFileNames verb names →
-        PipeSteps S held (Ok (record { verb = verb; options = []; argument = FileNames names } ∷ [])) a →
-        FilesStep held verb names a
-    bad_names : ¬ AreFileNames verb names → FilesStep held verb names (refusing held (placeless BadArgument []) [])
+-- what a command with file names of the program's words answers; a name of another ending is refused
+pub data FilesStep (held : Held) (verb : Verb) (names : List (List ℕ)) : Answer → Type 0 where
+  good_names : {a : _} → AreFileNames verb names →
+      PipeSteps held (Ok (record { verb = verb; options = []; argument = FileNames names } ∷ [])) a →
+      FilesStep held verb names a
+  bad_names : ¬ AreFileNames verb names → FilesStep held verb names (refusing held (placeless BadArgument []) [])
 
-  -- what a run answers over the words, the input and the files: its replies are the output, in their order
-  pub data Output (words : List (List ℕ)) (input : List ℕ) (files : Files) : List Answer → Type 0 where
-    lines : {answers : _} → Asks words (session []) → InOrder (Steps S) (unbegun files) (lines_of input) answers →
-        Output words input files answers
-    file_lines : {file names : _} {a : Answer} {answers : _} → Asks words (session (file ∷ names)) →
-        FilesStep (unbegun files) Import (file ∷ names) a → InOrder (Steps S) a.after (lines_of input) answers →
-        Output words input files (a ∷ answers)
-    made : {out names : _} {a : Answer} {b : _} → Asks words (make out names) → FilesStep (unbegun files) Import names a →
-        a.refused ≡ false → FilesStep a.after WritePortable (out ∷ []) b → Output words input files (a ∷ b ∷ [])
-    not_made : {out names : _} {a : Answer} → Asks words (make out names) → FilesStep (unbegun files) Import names a →
-        a.refused ≡ true → Output words input files (a ∷ [])
-    counted : {n : _} → Asks words (workload n) → Output words input files (replying (unbegun files) (workload_lines n) ∷ [])
-    wrong_call : ((mode : Mode) → ¬ Asks words mode) → Output words input files (replying (unbegun files) (usage_line ∷ []) ∷ [])
+-- what a run answers over the words, the input and the files: its replies are the output, in their order
+pub data Output (words : List (List ℕ)) (input : List ℕ) (files : Files) : List Answer → Type 0 where
+  lines : {answers : _} → Asks words (session []) → InOrder Steps (unbegun files) (lines_of input) answers →
+      Output words input files answers
+  file_lines : {file names : _} {a : Answer} {answers : _} → Asks words (session (file ∷ names)) →
+      FilesStep (unbegun files) Import (file ∷ names) a → InOrder Steps a.after (lines_of input) answers →
+      Output words input files (a ∷ answers)
+  made : {out names : _} {a : Answer} {b : _} → Asks words (make out names) → FilesStep (unbegun files) Import names a →
+      a.refused ≡ false → FilesStep a.after WritePortable (out ∷ []) b → Output words input files (a ∷ b ∷ [])
+  not_made : {out names : _} {a : Answer} → Asks words (make out names) → FilesStep (unbegun files) Import names a →
+      a.refused ≡ true → Output words input files (a ∷ [])
+  counted : {n : _} → Asks words (workload n) → Output words input files (replying (unbegun files) (workload_lines n) ∷ [])
+  wrong_call : ((mode : Mode) → ¬ Asks words mode) → Output words input files (replying (unbegun files) (usage_line ∷ []) ∷ [])

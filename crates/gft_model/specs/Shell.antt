@@ -14,11 +14,13 @@ use Rattle.gft_rules.specs.declared.rule.Rule.{Rule}
 use Rattle.gft_rules.specs.declared.rule.Rule.TheVariants.{NoGrammar, NoLanguage, NoSuchLanguage, NoSuchCategory, UnknownName, CannotRead, CannotWrite, PortableTooLong, LineTooLong, LineNotUtf8}
 use Rattle.gft_model.specs.AbstractInfo.{judgement_lines}
 use Rattle.gft_model.specs.Commands.{Verb, Import, Empty, Quit, AbstractInfo, WritePortable, Argument, Nothing, Item, Given, Name, Command, keys_of, option_of, ReadsLine, FileNames}
-use Rattle.gft_model.specs.Refusals.{placeless}
-use Rattle.gft_model.specs.Loading.{most_portable_bytes}
+use Rattle.gft_model.specs.Refusals.{placeless, IsFirst}
+use Rattle.gft_model.specs.Import.{BreaksImport, ComesTo}
+use Rattle.gft_model.specs.Loading.{HasFiles, most_portable_bytes}
 use Rattle.gft_model.specs.PortableFile.{Reads}
 use Rattle.gft_model.specs.Replies.{line_of, category_for, languages_for, Runs}
-use Rattle.gft_model.specs.States.{Kept, Loaded, State, Sources, IsImported, Joins, StandsFor}
+use Rattle.gft_model.specs.Sessions.{IsImported, Joins, StandsFor}
+use Rattle.gft_model.specs.States.{Kept, Loaded, State}
 
 -- the state of a session, and the files
 pub record Held : Type 0 where
@@ -87,53 +89,52 @@ pub data InOrder {A : Type 0} (R : Held → A → Answer → Type 0) : Held → 
   more : {held x xs others : _} {a : Answer} → R held x a → a.ends ≡ false → InOrder R a.after xs others →
       InOrder R held (x ∷ xs) (a ∷ others)
 
-module _ (S : Sources) where
-  -- the bytes of the portable file of a state, which are read as the grammar that stands for it
-  abbrev pub IsFileOf : State → List ℕ → Type 0
-  IsFileOf state bytes = (g : Grammar) × StandsFor S (Some g) state × Reads bytes g
+-- the bytes of the portable file of a state, which are read as the grammar that stands for it
+abbrev pub IsFileOf : State → List ℕ → Type 0
+IsFileOf state bytes = (g : Grammar) × StandsFor (Some g) state × Reads bytes g
 
-  -- what a command does that stands alone in its pipe; after a save that failed the content of its file is open
-  pub data Does (held : Held) : Verb → Argument → Answer → Type 0 where
-    imports : {names new joined : _} → IsImported S held.files names new → Joins held.state new joined →
-        Does held Import (FileNames names) (replying (record held { state = Some joined }) (grammar_line joined ∷ []))
-    import_refused : {names loaded r : _} → S.refuses held.files names r loaded →
-        Does held Import (FileNames names) (refusing held r loaded)
-    load_failed : {names file : _} → S.loads held.files names file →
-        Does held Import (FileNames names) (failing held CannotRead file)
-    empties : Does held Empty Nothing (replying (record held { state = None }) [])
-    quits : Does held Quit Nothing (record (replying held []) { ends = true })
-    informs : {g : Loaded} → held.state ≡ Some g →
-        Does held AbstractInfo Nothing (replying held (judgement_lines g.abs (λ name. true)))
-    informs_of : {g : Loaded} {name : _} → held.state ≡ Some g → judgement_lines g.abs (bytes_eq name) ≢ [] →
-        Does held AbstractInfo (Name name) (replying held (judgement_lines g.abs (bytes_eq name)))
-    unknown_name : {g : Loaded} {name : _} → held.state ≡ Some g → judgement_lines g.abs (bytes_eq name) ≡ [] →
-        Does held AbstractInfo (Name name) (refusing held (placeless UnknownName (name ∷ [])) [])
-    writes : {file bytes : _} → IsFileOf held.state bytes → length bytes ≤ most_portable_bytes →
-        Does held WritePortable (FileNames (file ∷ [])) (replying (record held { files = insert held.files file bytes })
-        ((codes "wrote " ++ file ++ codes " " ++ decimal (length bytes) ++ codes " bytes") ∷ []))
-    save_failed : {file bytes left : _} → IsFileOf held.state bytes → length bytes ≤ most_portable_bytes →
-        KeepsOthers file held.files left →
-        Does held WritePortable (FileNames (file ∷ [])) (failing (record held { files = left }) CannotWrite file)
-    portable_too_long : {file bytes : _} → IsFileOf held.state bytes → most_portable_bytes < length bytes →
-        Does held WritePortable (FileNames (file ∷ [])) (refusing held (placeless PortableTooLong (file ∷ [])) [])
+-- what a command does that stands alone in its pipe; after a save that failed the content of its file is open
+pub data Does (held : Held) : Verb → Argument → Answer → Type 0 where
+  imports : {names new joined : _} → IsImported held.files names new → Joins held.state new joined →
+      Does held Import (FileNames names) (replying (record held { state = Some joined }) (grammar_line joined ∷ []))
+  import_refused : {names loaded r : _} → IsFirst (BreaksImport held.files names) r → HasFiles held.files names loaded →
+      Does held Import (FileNames names) (refusing held r loaded)
+  load_failed : {names file : _} → ComesTo held.files names file →
+      Does held Import (FileNames names) (failing held CannotRead file)
+  empties : Does held Empty Nothing (replying (record held { state = None }) [])
+  quits : Does held Quit Nothing (record (replying held []) { ends = true })
+  informs : {g : Loaded} → held.state ≡ Some g →
+      Does held AbstractInfo Nothing (replying held (judgement_lines g.abs (λ name. true)))
+  informs_of : {g : Loaded} {name : _} → held.state ≡ Some g → judgement_lines g.abs (bytes_eq name) ≢ [] →
+      Does held AbstractInfo (Name name) (replying held (judgement_lines g.abs (bytes_eq name)))
+  unknown_name : {g : Loaded} {name : _} → held.state ≡ Some g → judgement_lines g.abs (bytes_eq name) ≡ [] →
+      Does held AbstractInfo (Name name) (refusing held (placeless UnknownName (name ∷ [])) [])
+  writes : {file bytes : _} → IsFileOf held.state bytes → length bytes ≤ most_portable_bytes →
+      Does held WritePortable (FileNames (file ∷ [])) (replying (record held { files = insert held.files file bytes })
+      ((codes "wrote " ++ file ++ codes " " ++ decimal (length bytes) ++ codes " bytes") ∷ []))
+  save_failed : {file bytes left : _} → IsFileOf held.state bytes → length bytes ≤ most_portable_bytes →
+      KeepsOthers file held.files left →
+      Does held WritePortable (FileNames (file ∷ [])) (failing (record held { files = left }) CannotWrite file)
+  portable_too_long : {file bytes : _} → IsFileOf held.state bytes → most_portable_bytes < length bytes →
+      Does held WritePortable (FileNames (file ∷ [])) (refusing held (placeless PortableTooLong (file ∷ [])) [])
 
-  -- what a pipe answers
-  pub data PipeSteps (held : Held) : Result (List Command) Refusal → Answer → Type 0 where
-    refused : {r : _} → PipeSteps held (Err r) (refusing held r [])
-    lacking : {cs r : _} → LacksFirst held.state cs r → PipeSteps held (Ok cs) (refusing held r [])
-    done : {c : Command} {a : _} → ((r : Refusal) → ¬ LacksFirst held.state (c ∷ []) r) → Does held c.verb c.argument a →
-        PipeSteps held (Ok (c ∷ [])) a
-    runs : {c : Command} {cs g item result : _} → ((r : Refusal) → ¬ LacksFirst held.state (c ∷ cs) r) →
-        held.state ≡ Some g → c.argument ≡ Given item → Runs g (c ∷ cs) (item ∷ []) result →
-        PipeSteps held (Ok (c ∷ cs)) (ran held result)
+-- what a pipe answers
+pub data PipeSteps (held : Held) : Result (List Command) Refusal → Answer → Type 0 where
+  refused : {r : _} → PipeSteps held (Err r) (refusing held r [])
+  lacking : {cs r : _} → LacksFirst held.state cs r → PipeSteps held (Ok cs) (refusing held r [])
+  done : {c : Command} {a : _} → ((r : Refusal) → ¬ LacksFirst held.state (c ∷ []) r) → Does held c.verb c.argument a →
+      PipeSteps held (Ok (c ∷ [])) a
+  runs : {c : Command} {cs g item result : _} → ((r : Refusal) → ¬ LacksFirst held.state (c ∷ cs) r) →
+      held.state ≡ Some g → c.argument ≡ Given item → Runs g (c ∷ cs) (item ∷ []) result →
+      PipeSteps held (Ok (c ∷ cs)) (ran held result)
 
-  -- what a session answers to a line of bytes
-  pub data Steps (held : Held) (line : List ℕ) : Answer → Type 0 where
-    too_long : line_limit < length line → Steps held line (refusing held (placeless LineTooLong []) [])
-    not_utf8 : length line ≤ line_limit → ¬ IsUtf8 line → Steps held line (refusing held (placeless LineNotUtf8 []) [])
-    read : {reads answers : _} → length line ≤ line_limit → IsUtf8 line → ReadsLine (chars line) reads →
-        InOrder PipeSteps held reads answers → Steps held line (whole held answers)
+-- what a session answers to a line of bytes
+pub data Steps (held : Held) (line : List ℕ) : Answer → Type 0 where
+  too_long : line_limit < length line → Steps held line (refusing held (placeless LineTooLong []) [])
+  not_utf8 : length line ≤ line_limit → ¬ IsUtf8 line → Steps held line (refusing held (placeless LineNotUtf8 []) [])
+  read : {reads answers : _} → length line ≤ line_limit → IsUtf8 line → ReadsLine (chars line) reads →
+      InOrder PipeSteps held reads answers → Steps held line (whole held answers)
 
-  -- what it answers where no load or save failed
-  abbrev pub IsAnswer : Held → List ℕ → Answer → Type 0
-  IsAnswer held line a = Steps held line a × (a.failures ≡ 0)
+-- what it answers where no load or save failed
+abbrev pub IsAnswer : Held → List ℕ → Answer → Type 0
+IsAnswer held line a = Steps held line a × (a.failures ≡ 0)

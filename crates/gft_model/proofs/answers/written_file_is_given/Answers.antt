@@ -1,6 +1,5 @@
 use Rattle.gft_model.proofs.AnswerLaws.{written_given}
 use Rattle.gft_model.proofs.answers.written_file_is_given.Goals as goal
-use Rattle.gft_model.specs.Import.{sources}
 
 pub returns : goal.returns
-returns c = written_given sources
+returns c = written_given
