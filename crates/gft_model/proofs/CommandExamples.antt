@@ -12,7 +12,7 @@ use Rattle.gft_tree.specs.Grammar as grammar
 use Rattle.gft_tree.specs.Lexemes as lexeme
 use Rattle.gft_tree.specs.Spelling.{Spells}
 use Rattle.gft_rules.specs.declared.refusal.Refusal.{Refusal}
-use Rattle.gft_model.specs.Commands.{Verb, Empty, Parse, Linearize, AbstractInfo, Argument, Nothing, Command, parts, pipes_of, argument_of, bad_option, keys_of, IsArgument, files, of_empty, to_parse, to_linearize, bare, not_called, read, none, more, refused, AreJoined, last, next, ReadsPipe, pipe, bad_pipe, pipe_refused, ReadsLine}
+use Rattle.gft_model.specs.Commands.{Verb, Empty, Parse, Linearize, AbstractInfo, Argument, Nothing, Command, outside, parts, pipes_of, argument_of, bad_option, keys_of, IsArgument, files, of_empty, to_parse, to_linearize, bare, not_called, read, none, more, refused, AreJoined, last, next, ReadsPipe, pipe, bad_pipe, pipe_refused, ReadsLine}
 use Rattle.gft_model.specs.Refusals.{placeless}
 
 -- a command
@@ -20,11 +20,11 @@ abbrev pub command : Verb → List (List ℕ) → Argument → Command
 command verb options argument = record { verb = verb; options = options; argument = argument }
 
 -- a semicolon in quotes does not cut, behind an escaped quote neither
-quotes : parts 59 (codes "p \"a;\\\";b\" ; e") ≡ codes "p \"a;\\\";b\" " ∷ codes " e" ∷ []
+quotes : parts 59 outside (codes "p \"a;\\\";b\" ; e") ≡ codes "p \"a;\\\";b\" " ∷ codes " e" ∷ []
 quotes = refl
 
 -- a bar cuts a pipe, and an open quote goes on to the end of the line
-bars : parts 124 (codes "p \"a|b\"|l \"c|") ≡ codes "p \"a|b\"" ∷ codes "l \"c|" ∷ []
+bars : parts 124 outside (codes "p \"a|b\"|l \"c|") ≡ codes "p \"a|b\"" ∷ codes "l \"c|" ∷ []
 bars = refl
 
 -- blank pipes are left out

@@ -13,7 +13,7 @@ use Rattle.gft_tree.specs.Reading.{read_on, start}
 use Rattle.gft_tree.specs.Trees.{quoted}
 use Rattle.gft_tree.specs.declared.error.TreeErr.{TreeErr}
 use Rattle.gft_tree.proofs.AnswerLemmas.{is_read, is_refused}
-use Rattle.gft_model.specs.Commands.{Verb, Import, Empty, Quit, Parse, Linearize, Complete, AbstractInfo, WritePortable, Argument, Nothing, FileNames, Given, Name, Command, words_in, EndsIn, source_ending, portable_ending, AreFileNames, of_import, of_write_portable, IsArgument, files, of_empty, of_quit, to_parse, to_complete, to_linearize, by_name, all, bare, HasBadArgument, of_tree, other, called, ReadsCommand, not_called, argument_refused, read, InTurn, none, more, refused, refused_later, TakesUp, AreJoined, last, next, in_pipe, parts, quoted_parts, kept_parts, ReadsCommands, ReadsPipe, pipe, bad_pipe, pipe_refused, pipes_of, ReadsLine, argument_of}
+use Rattle.gft_model.specs.Commands.{Verb, Import, Empty, Quit, Parse, Linearize, Complete, AbstractInfo, WritePortable, Argument, Nothing, FileNames, Given, Name, Command, words_in, EndsIn, source_ending, portable_ending, AreFileNames, of_import, of_write_portable, IsArgument, files, of_empty, of_quit, to_parse, to_complete, to_linearize, by_name, all, bare, HasBadArgument, of_tree, other, called, ReadsCommand, not_called, argument_refused, read, InTurn, none, more, refused, refused_later, TakesUp, AreJoined, last, next, in_pipe, outside, place_behind, parts, ReadsCommands, ReadsPipe, pipe, bad_pipe, pipe_refused, pipes_of, ReadsLine, argument_of}
 use Rattle.gft_model.specs.Commands as commands
 use Rattle.gft_model.proofs.CommandLaws.{inner, inner_of}
 
@@ -205,11 +205,11 @@ some_first : (c : ℕ) (xs : List (List ℕ)) → with_first c xs ≢ []
 some_first c [] e = cc
 some_first c (x ∷ xs) e = cc
 
-some_parts : (separator : ℕ) (cs : List ℕ) → parts separator cs ≢ []
+some_parts : (separator : ℕ) (cs : List ℕ) → parts separator outside cs ≢ []
 some_parts separator [] e = cc
 some_parts separator (c ∷ cs) e = by_test (c == separator) e where
-  by_test : (b : Bool) → (if b then [] ∷ parts separator cs
-      else with_first c (if c == 34 then quoted_parts separator cs else parts separator cs)) ≡ [] → ⊥
+  by_test : (b : Bool) → (if b then [] ∷ parts separator outside cs
+      else with_first c (parts separator (place_behind outside c) cs)) ≡ [] → ⊥
   by_test true e = cc
   by_test false e = some_first c _ e
 
@@ -269,10 +269,10 @@ joined_or_not c (d ∷ cs) = by_parts (takes_up_or_not c.verb d.verb) (bare_or_n
   by_parts (inl t) (inl b) (inr n) = inr (λ h. n (others h))
 
 pipe_read : (text : List ℕ) → (r : Result (List Command) Refusal) × ReadsPipe text r
-pipe_read text = let all = in_turn (λ c. command_read c.0 c.1) (in_pipe (parts 124 text)) in by_result all.0 all.1 where
+pipe_read text = let all = in_turn (λ c. command_read c.0 c.1) (in_pipe (parts 124 outside text)) in by_result all.0 all.1 where
   by_result : (p : Result (List Command) Refusal) → ReadsCommands text p → (r : Result (List Command) Refusal) × ReadsPipe text r
   by_result (Err r) d = (_, pipe_refused d)
-  by_result (Ok []) d = absurd (some_commands (parts 124 text) (some_parts 124 text) d)
+  by_result (Ok []) d = absurd (some_commands (parts 124 outside text) (some_parts 124 text) d)
   by_result (Ok (c ∷ cs)) d =
       ⊎_elim {C = (r : Result (List Command) Refusal) × ReadsPipe text r} (λ j. (_, pipe d j)) (λ n. (_, bad_pipe d n))
           (joined_or_not c cs)

@@ -2,7 +2,7 @@
 use Rattle.std.specs.Prelude.{◌≡◌, ◌≢◌, ◌==◌, ◌&&◌, ◌⊎◌, ℕ, zero, suc, ◌+◌, Bool, true, false, not, nat_le, if◌then◌else◌, List, [], ◌∷◌, ◌++◌, length, map, filter, take, drop, codes, bytes_eq, slice_get, slice_index_or, All, Option, Some, None, Result, Ok, Err, encode_utf8_all}
 use Rattle.std.specs.Char.{is_whitespace}
 use Rattle.std.specs.Fmt.{decimal}
-use Rattle.std.specs.List.{AllZip, list_all, take_while, filter_map, position_or_len}
+use Rattle.std.specs.List.{AllZip, list_all, list_any, take_while, filter_map, position_or_len}
 use Rattle.std.specs.Map.{lookup}
 use Rattle.std.specs.Option.{option_map, option_map_or}
 use Rattle.std.specs.Str.{skip_leading_whitespace, drop_trailing_whitespace}
@@ -47,30 +47,28 @@ pub record Command : Type 0 where
 
 -- A line is characters here, and so are its parts.
 
-abbrev mutual
-  -- the parts between separators outside quotes, of which there is one at least
-  pub parts : ℕ → List ℕ → List (List ℕ)
-  parts separator [] = [] ∷ []
-  parts separator (c ∷ cs) =
-      if c == separator then [] ∷ parts separator cs
-      else with_first c (if c == 34 then quoted_parts separator cs else parts separator cs)
+-- a character stands outside quotes, within them, or behind a backslash there, which keeps it within
+pub data Place : Type 0 where
+  outside within kept : Place
 
-  -- the same from within quotes
-  pub quoted_parts : ℕ → List ℕ → List (List ℕ)
-  quoted_parts separator [] = [] ∷ []
-  quoted_parts separator (c ∷ cs) = with_first c
-      (if c == 34 then parts separator cs else if c == 92 then kept_parts separator cs else quoted_parts separator cs)
+-- where the character behind one stands
+abbrev pub place_behind : Place → ℕ → Place
+place_behind outside c = if c == 34 then within else outside
+place_behind within c = if c == 34 then outside else if c == 92 then kept else within
+place_behind kept c = within
 
-  -- the same from behind a backslash within quotes, which keeps the next character there
-  pub kept_parts : ℕ → List ℕ → List (List ℕ)
-  kept_parts separator [] = [] ∷ []
-  kept_parts separator (c ∷ cs) = with_first c (quoted_parts separator cs)
+-- the parts between separators outside quotes, of which there is one at least
+abbrev pub parts : ℕ → Place → List ℕ → List (List ℕ)
+parts separator place [] = [] ∷ []
+parts separator outside (c ∷ cs) =
+    if c == separator then [] ∷ parts separator outside cs else with_first c (parts separator (place_behind outside c) cs)
+parts separator place (c ∷ cs) = with_first c (parts separator (place_behind place c) cs)
 
 -- the pipes of a line, between semicolons, that are not white space alone; a line that begins with two hyphens is a comment
 -- and has none
 abbrev pub pipes_of : List ℕ → List (List ℕ)
 pipes_of line =
-    if bytes_eq (take 2 line) (codes "--") then [] else filter (λ pipe. not (list_all is_whitespace pipe)) (parts 59 line)
+    if bytes_eq (take 2 line) (codes "--") then [] else filter (λ pipe. not (list_all is_whitespace pipe)) (parts 59 outside line)
 
 -- what stands after so many words and white space
 abbrev pub after_words : ℕ → List ℕ → List ℕ
@@ -130,10 +128,7 @@ is_option word key = option_map_or (if bytes_eq key (codes "-depth=") then is_de
 abbrev pub bad_option : List (List ℕ) → List (List ℕ) → Option (List ℕ)
 bad_option keys [] = None
 bad_option keys (word ∷ words) =
-    elim (filter (is_option word) keys) [
-      | [] ↦ Some word
-      | key ∷ others ↦ bad_option (filter (λ k. not (bytes_eq k key)) keys) words
-    ]
+    if list_any (is_option word) keys then bad_option (filter (λ key. not (is_option word key)) keys) words else Some word
 
 -- the value of an option of a command, if it has the option
 abbrev pub option_of : List ℕ → Command → Option (List ℕ)
@@ -216,7 +211,7 @@ in_pipe (text ∷ texts) = (false, text) ∷ map (λ t. (true, t)) texts
 
 -- the commands of a pipe, between bars, or the first refusal from left to right
 abbrev pub ReadsCommands : List ℕ → Result (List Command) Refusal → Type 0
-ReadsCommands pipe = InTurn (λ c. ReadsCommand c.0 c.1) (in_pipe (parts 124 pipe))
+ReadsCommands pipe = InTurn (λ c. ReadsCommand c.0 c.1) (in_pipe (parts 124 outside pipe))
 
 -- a command takes up what the one before it in a pipe hands on: trees, or texts
 pub data TakesUp : Verb → Verb → Type 0 where

@@ -1,6 +1,7 @@
 -- What a session holds.
 use Rattle.std.specs.Prelude.{ℕ, List, [], ◌∷◌, map, bytes_eq, Contains, Option, Some, None, position, slice_get}
 use Rattle.std.specs.Cmp.Lexicographic.{slice_cmp}
+use Rattle.std.specs.List.{fold}
 use Rattle.std.specs.FinMap.{put}
 use Rattle.std.specs.Ordering.{nat_cmp}
 use Rattle.gft_pmcfg.specs.declared.concrete.Concrete.{Concrete}
@@ -32,8 +33,7 @@ State = Option Loaded
 
 -- languages with more of them, one after the other, each in place of one of its name
 abbrev pub added : Languages → Languages → Languages
-added held [] = held
-added held (l ∷ ls) = added (put (slice_cmp nat_cmp) l.0 l.1 held) ls
+added held ls = fold (λ before l. put (slice_cmp nat_cmp) l.0 l.1 before) held ls
 
 -- the number of the category of a name, and the name of the category of a number
 abbrev pub category_number : Abstract → List ℕ → Option ℕ
