@@ -108,10 +108,6 @@ all_different-front (x ∷ xs) ys h =
           ap (λ b. not b && all_different (xs ++ ys)) (is_among-append x xs ys ∙ ap (λ b. b || is_among x ys) among))
     ]
 
--- all of four tests pass
-pub and4_true : {a b c d : Bool} → a ≡ true → b ≡ true → c ≡ true → d ≡ true → (a && b && c && d) ≡ true
-and4_true p q r s = rw (p, q, r, s) refl
-
 place_behind : (b : Bool) (m len : ℕ)
     → cond (ltb (cond (not b) (1 + m) 0) (suc len)) (Some (cond (not b) (1 + m) 0)) None ≡ cond b (Some 0) (option_map suc (cond (ltb m len) (Some m) None))
 place_behind true m len = grind (arith, nat_tests)

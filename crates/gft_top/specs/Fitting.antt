@@ -53,10 +53,13 @@ is_bound params (Field name) = is_among name params
 abbrev pub is_lin : Lin → Bool
 is_lin lin = all_different lin.params && list_all (is_bound lin.params) lin.items
 
--- a concrete module of a file: it has the file's base name, and no category and no function has two linearizations
+-- whether a concrete module has the file's base name, and no category and no function has two linearizations
+abbrev pub has_names_once : List ℕ → ConcreteModule → Bool
+has_names_once base m = bytes_eq m.name base && all_different m.lincats && all_different (map (λ lin. lin.fun) m.lins)
+
+-- a concrete module of a file: its names are such, and each linearization is well formed
 abbrev pub is_concrete_file : List ℕ → ConcreteModule → Bool
-is_concrete_file base m =
-    bytes_eq m.name base && all_different m.lincats && all_different (map (λ lin. lin.fun) m.lins) && list_all is_lin m.lins
+is_concrete_file base m = has_names_once base m && list_all is_lin m.lins
 
 -- the linearization of that function
 abbrev pub lin_named : List Lin → List ℕ → Option Lin

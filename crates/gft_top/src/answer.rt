@@ -85,8 +85,8 @@ fn said(alloc: Global, grammar: &Grammar, line: &[u8]) -> Result<Option<Reply>, 
     let Some(tree) = line_tree(alloc, line)? else {
         return Ok(None);
     };
-    match grammar.signature.category_of(&tree) {
-        Some(_) => Ok(Some(speak(alloc, &grammar.speech, &tree)?)),
+    match grammar.signature.get().category_of(&tree) {
+        Some(_) => Ok(Some(speak(alloc, grammar.speech.get(), &tree)?)),
         None => Ok(None),
     }
 }

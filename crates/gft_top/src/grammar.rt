@@ -9,21 +9,23 @@ use crate::signature::Signature;
 use crate::speech::Speech;
 use crate::syntax::{FunDecl, Lin};
 use gft_core::Name;
+use sqlite_items::Boxed;
 
-/// A grammar of one language. Contracts see its two modules, which fit each other.
+/// A grammar of one language. Contracts see its two modules, which fit each other. Each stands behind a pointer, so that a
+/// function that has a grammar moves and drops two pointers.
 #[derive(Drop)]
 pub struct Grammar {
-    pub signature: Signature,
-    pub speech: Speech,
+    pub signature: Boxed<Signature>,
+    pub speech: Boxed<Speech>,
 }
 
 impl Grammar {
     /// The grammar of the two modules, where they fit each other. Linear in the modules; it takes no memory.
-    pub fn new(signature: Signature, speech: Speech) -> Option<Grammar>
+    pub fn new(signature: Boxed<Signature>, speech: Boxed<Speech>) -> Option<Grammar>
         ensures { MatchOption result (fits signature speech ≡ false)
             (λ g. (fits signature speech ≡ true) × (g.signature ≡ signature) × (g.speech ≡ speech)) }
     {
-        if !fits(&signature, &speech) {
+        if !fits(signature.get(), speech.get()) {
             return None;
         }
         Some(Grammar { signature, speech })

@@ -13,6 +13,7 @@ use crate::signature::Signature;
 use crate::speech::Speech;
 use gft_core::NoMemory;
 use gft_io::Store;
+use sqlite_items::Boxed;
 use std::alloc::Global;
 
 /// The reply to an import, and the grammar that the session has after it.
@@ -23,7 +24,7 @@ pub struct Import {
 }
 
 /// The concrete module of that base name that the text is.
-fn concrete_of(alloc: Global, base: &str, text: &[u8]) -> Result<Option<Speech>, NoMemory>
+fn concrete_of(alloc: Global, base: &str, text: &[u8]) -> Result<Option<Boxed<Speech>>, NoMemory>
     ensures { IfOk result (λ found. IsFound (IsConcreteSource base.now text.now) found) }
 {
     match read_concrete(alloc, text)? {
@@ -33,7 +34,7 @@ fn concrete_of(alloc: Global, base: &str, text: &[u8]) -> Result<Option<Speech>,
 }
 
 /// The abstract module of that base name that the text is.
-fn abstract_of(alloc: Global, base: &str, text: &[u8]) -> Result<Option<Signature>, NoMemory>
+fn abstract_of(alloc: Global, base: &str, text: &[u8]) -> Result<Option<Boxed<Signature>>, NoMemory>
     ensures { IfOk result (λ found. IsFound (IsAbstractSource base.now text.now) found) }
 {
     match read_abstract(alloc, text)? {
@@ -48,7 +49,7 @@ fn load_concrete<F: Store>(
     store: &mut F,
     file: &str,
     base: &str,
-) -> Result<Result<Speech, Refused>, NoMemory>
+) -> Result<Result<Boxed<Speech>, Refused>, NoMemory>
     ensures told { IfOk result (λ found. IfSome (F.files store.old) (λ files.
         FindsConcrete (Rose (F.faults store.old) (F.faults store.new)) files file.now base.now found)) }
     ensures keeps { Told Same (F.files store.old) (F.files store.new) }
@@ -69,7 +70,7 @@ fn load_abstract<F: Store>(
     store: &mut F,
     file: &str,
     base: &str,
-) -> Result<Result<Signature, Refused>, NoMemory>
+) -> Result<Result<Boxed<Signature>, Refused>, NoMemory>
     ensures told { IfOk result (λ found. IfSome (F.files store.old) (λ files.
         FindsAbstract (Rose (F.faults store.old) (F.faults store.new)) files file.now base.now found)) }
     ensures keeps { Told Same (F.files store.old) (F.files store.new) }
@@ -95,12 +96,21 @@ fn refuse(alloc: Global, rule: Refused, file: &str) -> Result<Import, NoMemory>
 }
 
 /// The import of two modules that stand for themselves, where they fit; else the file is refused.
-fn join(alloc: Global, signature: Signature, speech: Speech, file: &str) -> Result<Import, NoMemory>
+fn join(
+    alloc: Global,
+    signature: Boxed<Signature>,
+    speech: Boxed<Speech>,
+    file: &str,
+) -> Result<Import, NoMemory>
     ensures { IfOk result (λ made. Joins signature speech file.now (import_of made)) }
 {
     match Grammar::new(signature, speech) {
         Some(grammar) => Ok(Import {
-            reply: acceptance(alloc, grammar.signature.name(), grammar.speech.name())?,
+            reply: acceptance(
+                alloc,
+                grammar.signature.get().name(),
+                grammar.speech.get().name(),
+            )?,
             grammar: Some(grammar),
         }),
         None => refuse(alloc, Refused::NotBuilt, file),
@@ -112,15 +122,15 @@ fn import_beside<F: Store>(
     alloc: Global,
     store: &mut F,
     file: &str,
-    speech: Speech,
+    speech: Boxed<Speech>,
 ) -> Result<Import, NoMemory>
     ensures told { IfOk result (λ made. IfSome (F.files store.old) (λ files.
         ImportsBeside (Rose (F.faults store.old) (F.faults store.new)) files file.now speech (import_of made))) }
     ensures keeps { Told Same (F.files store.old) (F.files store.new) }
     ensures faults { F.faults store.old ≤ F.faults store.new }
 {
-    let path = beside(alloc, file, speech.of().as_str())?;
-    match load_abstract(alloc, store, path.as_str(), speech.of().as_str())? {
+    let path = beside(alloc, file, speech.get().of().as_str())?;
+    match load_abstract(alloc, store, path.as_str(), speech.get().of().as_str())? {
         Ok(signature) => join(alloc, signature, speech, file),
         Err(rule) => refuse(alloc, rule, path.as_str()),
     }

@@ -13,7 +13,7 @@ ghost use Rattle.std.specs.Option.{option_copied};
 use crate::index::Index;
 use crate::syntax::{AbstractModule, FunDecl};
 use gft_core::{Name, NoMemory, Tree};
-use sqlite_items::Items;
+use sqlite_items::{Boxed, Items};
 use std::alloc::Global;
 use std::marker::Model;
 
@@ -41,7 +41,8 @@ impl Model for Signature {
 
     ghost view = { λ s. s.module };
 
-    ghost invariant = { λ s. (s.cats ≡ s.module.cats) × (s.functions ≡ names_of s.module.funs) × (s.owners ≡ owners_from 0 s.module.funs) };
+    ghost invariant = { λ s. (s.cats ≡ s.module.cats) × (s.functions ≡ names_of s.module.funs)
+        × (s.owners ≡ owners_from 0 s.module.funs) };
 }
 
 impl Signature {
@@ -50,30 +51,22 @@ impl Signature {
         alloc: Global,
         base: &str,
         written: AbstractModule,
-    ) -> Result<Option<Signature>, NoMemory>
+    ) -> Result<Option<Boxed<Signature>>, NoMemory>
         ensures { IfOk result (λ made. made ≡ (if is_abstract_file base.now written then Some written else None)) }
     {
-        if !is_named(&written.name, base) {
-            return Ok(None);
-        }
-        let mut cats = Index::new(alloc);
-        if !cats.add_all(alloc, written.cats.as_slice())? {
-            return Ok(None);
-        }
-        let mut functions = Index::new(alloc);
-        if !add_declared(&mut functions, alloc, written.funs.as_slice())? {
-            return Ok(None);
-        }
-        if !is_closed(&written, &cats, &functions) {
-            return Ok(None);
-        }
         let owners = owners_of(alloc, written.funs.as_slice())?;
-        Ok(Some(Signature {
+        let mut cats = Index::new(alloc);
+        let mut functions = Index::new(alloc);
+        if !add_names(&mut cats, &mut functions, alloc, base, &written)? {
+            return Ok(None);
+        }
+        let signature = Signature {
             module: written,
             cats,
             functions,
             owners,
-        }))
+        };
+        Ok(Some(Boxed::new(alloc, signature)?))
     }
 
     /// The module's name.
@@ -204,6 +197,33 @@ fn are_typed(cats: &Index, decls: &[FunDecl]) -> bool
     ensures { result ≡ list_all (has_categories cats.now) decls.now }
 {
     decls.iter().all(|decl| cats.has_all(decl.args.as_slice()) && cats.has(&decl.result))
+}
+
+/// Adds the names of the module's categories and functions, up to one that is not new, and says whether the module is well
+/// formed in a file of that base name.
+fn add_names(
+    cats: &mut Index,
+    functions: &mut Index,
+    alloc: Global,
+    base: &str,
+    module: &AbstractModule,
+) -> Result<bool, NoMemory>
+    requires cats { cats.old ≡ [] }
+    requires functions { functions.old ≡ [] }
+    ensures well { IfOk result (λ well. well ≡ is_abstract_file base.now module.now) }
+    ensures cats { IfOk result (λ well. well ≡ true → cats.new ≡ module.now.cats) }
+    ensures functions { IfOk result (λ well. well ≡ true → functions.new ≡ names_of module.now.funs) }
+{
+    if !is_named(&module.name, base) {
+        return Ok(false);
+    }
+    if !cats.add_all(alloc, module.cats.as_slice())? {
+        return Ok(false);
+    }
+    if !add_declared(functions, alloc, module.funs.as_slice())? {
+        return Ok(false);
+    }
+    Ok(is_closed(module, cats, functions))
 }
 
 /// Adds the names of all declarations, up to one that is not new, and says whether all were.

@@ -4,7 +4,7 @@ ghost use Rattle.std.specs.List.{list_all};
 ghost use Rattle.std.specs.Option.{option_copied};
 ghost use Rattle.gft_core.specs.Words.{words_of};
 ghost use Rattle.gft_top.specs.Names.{all_different, place_of};
-ghost use Rattle.gft_top.specs.Fitting.{is_concrete_file, is_lin, lin_named};
+ghost use Rattle.gft_top.specs.Fitting.{is_concrete_file, has_names_once, is_lin, lin_named};
 ghost use Rattle.gft_top.specs.Speech.{words_said};
 ghost use Rattle.gft_top.specs.Compiled.{spaced, pieces_of, pieces_text, compiled, compiled_item, compiled_items, compiled_all};
 
@@ -12,7 +12,7 @@ use crate::index::Index;
 use crate::signature::is_named;
 use crate::syntax::{ConcreteModule, Item, Lin};
 use gft_core::{Name, NoMemory, Text, Token, Tree, words};
-use sqlite_items::{Items, at};
+use sqlite_items::{Boxed, Items, at};
 use std::alloc::Global;
 use std::marker::Model;
 
@@ -43,7 +43,9 @@ impl Model for Speech {
 
     ghost view = { λ s. s.module };
 
-    ghost invariant = { λ s. (s.lincats ≡ s.module.lincats) × (s.functions ≡ map (λ lin. lin.fun) s.module.lins) × (s.pieces.items ≡ map pieces_of s.module.lins) };
+    ghost invariant = { λ s. (s.lincats ≡ s.module.lincats)
+        × (s.functions ≡ map (λ lin. lin.fun) s.module.lins)
+        × (s.pieces.items ≡ map pieces_of s.module.lins) };
 }
 
 impl Speech {
@@ -52,29 +54,24 @@ impl Speech {
         alloc: Global,
         base: &str,
         written: ConcreteModule,
-    ) -> Result<Option<Speech>, NoMemory>
+    ) -> Result<Option<Boxed<Speech>>, NoMemory>
         ensures { IfOk result (λ made. made ≡ (if is_concrete_file base.now written then Some written else None)) }
     {
-        if !is_named(&written.name, base) {
-            return Ok(None);
-        }
-        let mut lincats = Index::new(alloc);
-        if !lincats.add_all(alloc, written.lincats.as_slice())? {
-            return Ok(None);
-        }
-        let mut functions = Index::new(alloc);
-        if !add_functions(&mut functions, alloc, written.lins.as_slice())? {
-            return Ok(None);
-        }
         let Some(pieces) = compile_all(alloc, written.lins.as_slice())? else {
             return Ok(None);
         };
-        Ok(Some(Speech {
+        let mut lincats = Index::new(alloc);
+        let mut functions = Index::new(alloc);
+        if !add_names(&mut lincats, &mut functions, alloc, base, &written)? {
+            return Ok(None);
+        }
+        let speech = Speech {
             module: written,
             lincats,
             functions,
             pieces,
-        }))
+        };
+        Ok(Some(Boxed::new(alloc, speech)?))
     }
 
     /// The module's own name.
@@ -176,6 +173,30 @@ impl Speech {
             Some(pieces) => Some(pieces.as_slice()),
         }
     }
+}
+
+/// Adds the names of the module's categories and functions, up to one that is not new, and says whether all were and the
+/// module has that base name.
+fn add_names(
+    lincats: &mut Index,
+    functions: &mut Index,
+    alloc: Global,
+    base: &str,
+    module: &ConcreteModule,
+) -> Result<bool, NoMemory>
+    requires lincats { lincats.old ≡ [] }
+    requires functions { functions.old ≡ [] }
+    ensures well { IfOk result (λ well. well ≡ has_names_once base.now module.now) }
+    ensures lincats { IfOk result (λ well. well ≡ true → lincats.new ≡ module.now.lincats) }
+    ensures functions { IfOk result (λ well. well ≡ true → functions.new ≡ map (λ lin. lin.fun) module.now.lins) }
+{
+    if !is_named(&module.name, base) {
+        return Ok(false);
+    }
+    if !lincats.add_all(alloc, module.lincats.as_slice())? {
+        return Ok(false);
+    }
+    add_functions(functions, alloc, module.lins.as_slice())
 }
 
 /// Adds the names of all linearized functions, up to one that is not new, and says whether all were.

@@ -7,8 +7,11 @@ use std::test::Fail;
 
 const HELLO: &str = "abstract Hello = {cat S ; X ; fun Greet : X -> S ; World, Mum : X ;}\n";
 
-const HELLO_ENG: &str =
-    "concrete HelloEng of Hello = {\n  lincat S, X = {s : Str} ;\n  lin Greet x = {s = \"hello\" ++ x.s} ; World = {s = \"world\"} ; Mum = {s = \"mum\"} ;\n}\n";
+const HELLO_ENG: &str = "concrete HelloEng of Hello = {
+  lincat S, X = {s : Str} ;
+  lin Greet x = {s = \"hello\" ++ x.s} ; World = {s = \"world\"} ; Mum = {s = \"mum\"} ;
+}
+";
 
 fn put_all(text: &mut String, names: &[Name], before: &str) -> Result<(), NoMemory> {
     for name in names {
