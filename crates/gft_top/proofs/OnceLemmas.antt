@@ -8,7 +8,7 @@ use Rattle.std.specs.List.{list_all}
 use Rattle.gft_core.specs.declared.tree.Tree.{Tree}
 use Rattle.gft_io.specs.Outside.{Files}
 use Rattle.gft_tree.specs.Spelling.{Spells}
-use Rattle.gft_tree.proofs.AnswerLemmas.{spells_reads, is_read}
+use Rattle.gft_tree.specs.Laws.{TreeIsSpelledOnce}
 use Rattle.gft_top.specs.declared.syntax.AbstractModule.{AbstractModule}
 use Rattle.gft_top.specs.declared.syntax.ConcreteModule.{ConcreteModule}
 use Rattle.gft_top.specs.FirstForm.{IsAbstractText, IsConcreteText}
@@ -23,55 +23,53 @@ use Rattle.gft_top.proofs.AnswerLemmas.{blank_is_space}
 
 -- ---- replies
 
-one_tree : (text : List ℕ) (t u : Tree) → Spells text t → Spells text u → t ≡ u
-one_tree text t u s r = sym ((is_read text t (spells_reads text t s)).only u r)
-
 same_text : (line text other : List ℕ) → line ≡ codes "l " ++ text → line ≡ codes "l " ++ other → text ≡ other
 same_text line text other e k = ap (drop 2) (sym e ∙ k)
-
-one_line_tree : (line : List ℕ) (t u : Tree) → Linearizes line t → Linearizes line u → t ≡ u
-one_line_tree line t u h k = one_tree (chars h.0) t u h.3 (subst (λ text. Spells (chars text) u) (same_text line k.0 h.0 k.1 h.1) k.3)
-
-one_said : (session : Option Modules) (line : List ℕ) (t u : Tree) (m n : Modules) → Linearizes line t → IsTyped session t m → Linearizes line u → IsTyped session u n
-    → spoken m.con.lins t ≡ spoken n.con.lins u
-one_said session line t u m n h s k r =
-    ap (λ (x : Tree). spoken m.con.lins x) (one_line_tree line t u h k) ∙ ap (λ (x : Modules). spoken x.con.lins u) (some_is m n (sym s.0 ∙ r.0))
-
--- a blank line has no tree
-not_blank : (line : List ℕ) (t : Tree) → IsBlank line → Linearizes line t → ⊥
-unfolding lib.Utf8.encode
-not_blank line t b h =
-    let first = chars_past_char line (32 ∷ h.0) 108 b.0 h.1 in
-    false≢true (subst (λ cs. list_all is_whitespace cs ≡ true) first (blank_is_space line b.1))
-
-one_reply : (session : Option Modules) (line : List ℕ) (a b : Reply) → IsReply session line a → IsReply session line b → a ≡ b
-one_reply session line a b (too_long h) (too_long k) = refl
-one_reply session line a b (too_long h) (blank k x) = absurd (omega arith)
-one_reply session line a b (too_long h) (said k x y) = absurd (omega arith)
-one_reply session line a b (too_long h) (unsaid k x y) = absurd (omega arith)
-one_reply session line a b (blank h x) (too_long k) = absurd (omega arith)
-one_reply session line a b (blank h x) (blank k y) = refl
-one_reply session line a b (blank h x) (said {t} {m} k y z) = absurd (not_blank line t x y)
-one_reply session line a b (blank h x) (unsaid k y z) = absurd (y x)
-one_reply session line a b (said h x y) (too_long k) = absurd (omega arith)
-one_reply session line a b (said {t} {m} h x y) (blank k z) = absurd (not_blank line t z x)
-one_reply session line a b (said {t} {m} h x y) (said {t = u} {m = n} k z w) = one_said session line t u m n x y z w
-one_reply session line a b (said {t} {m} h x y) (unsaid k z w) = absurd (w t m x y)
-one_reply session line a b (unsaid h x y) (too_long k) = absurd (omega arith)
-one_reply session line a b (unsaid h x y) (blank k z) = absurd (x z)
-one_reply session line a b (unsaid h x y) (said {t} {m} k z w) = absurd (y t m z w)
-one_reply session line a b (unsaid h x y) (unsaid k z w) = refl
 
 both : {x y : Reply} {xs ys : List Reply} → x ≡ y → xs ≡ ys → x ∷ xs ≡ y ∷ ys
 both {x} {y} {xs} e k = ap (λ r. r ∷ xs) e ∙ ap (λ rs. y ∷ rs) k
 
-one_answer : (session : Option Modules) (lines : List (List ℕ)) (ps qs : List Reply) → AreReplies session lines ps → AreReplies session lines qs → ps ≡ qs
-one_answer session [] [] [] none none = refl
-one_answer session [] [] (q ∷ qs) h k = elim k [ ]
-one_answer session [] (p ∷ ps) qs h k = elim h [ ]
-one_answer session (l ∷ ls) [] qs h k = elim h [ ]
-one_answer session (l ∷ ls) (p ∷ ps) [] h k = elim k [ ]
-one_answer session (l ∷ ls) (p ∷ ps) (q ∷ qs) (next r h) (next s k) = both (one_reply session l p q r s) (one_answer session ls ps qs h k)
+module _ (law : TreeIsSpelledOnce) where
+  one_line_tree : (line : List ℕ) (t u : Tree) → Linearizes line t → Linearizes line u → t ≡ u
+  one_line_tree line t u h k = law (chars h.0) t u h.3 (subst (λ text. Spells (chars text) u) (same_text line k.0 h.0 k.1 h.1) k.3)
+
+  one_said : (session : Option Modules) (line : List ℕ) (t u : Tree) (m n : Modules) → Linearizes line t → IsTyped session t m → Linearizes line u → IsTyped session u n
+      → spoken m.con.lins t ≡ spoken n.con.lins u
+  one_said session line t u m n h s k r =
+      ap (λ (x : Tree). spoken m.con.lins x) (one_line_tree line t u h k) ∙ ap (λ (x : Modules). spoken x.con.lins u) (some_is m n (sym s.0 ∙ r.0))
+
+  -- a blank line has no tree
+  not_blank : (line : List ℕ) (t : Tree) → IsBlank line → Linearizes line t → ⊥
+  unfolding lib.Utf8.encode
+  not_blank line t b h =
+      let first = chars_past_char line (32 ∷ h.0) 108 b.0 h.1 in
+      false≢true (subst (λ cs. list_all is_whitespace cs ≡ true) first (blank_is_space line b.1))
+
+  one_reply : (session : Option Modules) (line : List ℕ) (a b : Reply) → IsReply session line a → IsReply session line b → a ≡ b
+  one_reply session line a b (too_long h) (too_long k) = refl
+  one_reply session line a b (too_long h) (blank k x) = absurd (omega arith)
+  one_reply session line a b (too_long h) (said k x y) = absurd (omega arith)
+  one_reply session line a b (too_long h) (unsaid k x y) = absurd (omega arith)
+  one_reply session line a b (blank h x) (too_long k) = absurd (omega arith)
+  one_reply session line a b (blank h x) (blank k y) = refl
+  one_reply session line a b (blank h x) (said {t} {m} k y z) = absurd (not_blank line t x y)
+  one_reply session line a b (blank h x) (unsaid k y z) = absurd (y x)
+  one_reply session line a b (said h x y) (too_long k) = absurd (omega arith)
+  one_reply session line a b (said {t} {m} h x y) (blank k z) = absurd (not_blank line t z x)
+  one_reply session line a b (said {t} {m} h x y) (said {t = u} {m = n} k z w) = one_said session line t u m n x y z w
+  one_reply session line a b (said {t} {m} h x y) (unsaid k z w) = absurd (w t m x y)
+  one_reply session line a b (unsaid h x y) (too_long k) = absurd (omega arith)
+  one_reply session line a b (unsaid h x y) (blank k z) = absurd (x z)
+  one_reply session line a b (unsaid h x y) (said {t} {m} k z w) = absurd (y t m z w)
+  one_reply session line a b (unsaid h x y) (unsaid k z w) = refl
+
+  one_answer : (session : Option Modules) (lines : List (List ℕ)) (ps qs : List Reply) → AreReplies session lines ps → AreReplies session lines qs → ps ≡ qs
+  one_answer session [] [] [] none none = refl
+  one_answer session [] [] (q ∷ qs) h k = elim k [ ]
+  one_answer session [] (p ∷ ps) qs h k = elim h [ ]
+  one_answer session (l ∷ ls) [] qs h k = elim h [ ]
+  one_answer session (l ∷ ls) (p ∷ ps) [] h k = elim k [ ]
+  one_answer session (l ∷ ls) (p ∷ ps) (q ∷ qs) (next r h) (next s k) = both (one_reply session l p q r s) (one_answer session ls ps qs h k)
 
 -- ---- modules of files
 
@@ -210,8 +208,8 @@ module _ (files : Files) where
     same_import x y f g (inr (inr h)) = absurd (g h.0)
 
     -- the replies of a session are determined where no load failed
-    pub one_output : (file : List ℕ) (lines : List (List ℕ)) (ps qs : List Reply) → (F → ⊥) → (G → ⊥)
+    pub one_output : TreeIsSpelledOnce → (file : List ℕ) (lines : List (List ℕ)) (ps qs : List Reply) → (F → ⊥) → (G → ⊥)
         → IsOutput F files file lines ps → IsOutput G files file lines qs → ps ≡ qs
-    one_output file lines ps qs f g (output {imported = x} {replies = ps'} i h) (output {imported = y} {replies = qs'} j k) =
+    one_output law file lines ps qs f g (output {imported = x} {replies = ps'} i h) (output {imported = y} {replies = qs'} j k) =
         let e = same_import x y f g (one_import file x y i j) in
-        both (ap (λ (z : Import). z.reply) e) (one_answer y.modules lines ps' qs' (subst (λ (z : Import). AreReplies z.modules lines ps') e h) k)
+        both (ap (λ (z : Import). z.reply) e) (one_answer law y.modules lines ps' qs' (subst (λ (z : Import). AreReplies z.modules lines ps') e h) k)

@@ -14,6 +14,7 @@ use crate::importing::import_file;
 use crate::reply::{Reply, line_refusal};
 use gft_core::NoMemory;
 use gft_io::{Failed, LineErr, Lines, Sink, Source, Store, write_all};
+use gft_tree::tree_is_spelled_once;
 use std::alloc::Global;
 
 /// How a run ended: as the exit status of the program `Done` is 0, and each next one is one more.
@@ -224,4 +225,6 @@ pub fn run<S: Source, K: Sink, F: Store>(
 pub fn answered_once()
     ensures of_import { ImportedOnce }
     ensures of_output { AnsweredOnce }
-{}
+{
+    tree_is_spelled_once();
+}

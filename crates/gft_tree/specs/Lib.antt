@@ -6,3 +6,4 @@ pub mod Faults
 pub mod Reading
 pub mod Order
 pub mod Words
+pub mod Laws

@@ -22,6 +22,6 @@ pub use compare::cmp_text;
 pub use error::TreeErr;
 pub use height::depth;
 pub use numbering::number_holes;
-pub use reading::read_tree;
+pub use reading::{read_tree, tree_is_spelled_once};
 pub use round::print_and_read;
 pub use writing::print;

@@ -4,6 +4,7 @@ ghost use Rattle.std.specs.Str.{chars};
 ghost use Rattle.gft_tree.specs.Reading as spec;
 ghost use Rattle.gft_tree.specs.Reading.{Gives};
 ghost use Rattle.gft_tree.specs.Faults.{IsRead, AnswersErr};
+ghost use Rattle.gft_tree.specs.Laws.{TreeIsSpelledOnce};
 
 use crate::error::TreeErr;
 use crate::reader::Reader;
@@ -35,3 +36,8 @@ pub fn read_tree(alloc: Global, text: &str) -> Result<Tree, TreeErr>
 {
     read(alloc, text)
 }
+
+/// A text spells at most one tree. The function does nothing; its clause is the law.
+pub fn tree_is_spelled_once()
+    ensures { TreeIsSpelledOnce }
+{}
