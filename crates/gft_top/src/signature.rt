@@ -206,24 +206,24 @@ fn add_names(
     functions: &mut Index,
     alloc: Global,
     base: &str,
-    module: &AbstractModule,
+    written: &AbstractModule,
 ) -> Result<bool, NoMemory>
     requires cats { cats.old ≡ [] }
     requires functions { functions.old ≡ [] }
-    ensures well { IfOk result (λ well. well ≡ is_abstract_file base.now module.now) }
-    ensures cats { IfOk result (λ well. well ≡ true → cats.new ≡ module.now.cats) }
-    ensures functions { IfOk result (λ well. well ≡ true → functions.new ≡ names_of module.now.funs) }
+    ensures well { IfOk result (λ well. well ≡ is_abstract_file base.now written.now) }
+    ensures cats { IfOk result (λ well. well ≡ true → cats.new ≡ written.now.cats) }
+    ensures functions { IfOk result (λ well. well ≡ true → functions.new ≡ names_of written.now.funs) }
 {
-    if !is_named(&module.name, base) {
+    if !is_named(&written.name, base) {
         return Ok(false);
     }
-    if !cats.add_all(alloc, module.cats.as_slice())? {
+    if !cats.add_all(alloc, written.cats.as_slice())? {
         return Ok(false);
     }
-    if !add_declared(functions, alloc, module.funs.as_slice())? {
+    if !add_declared(functions, alloc, written.funs.as_slice())? {
         return Ok(false);
     }
-    Ok(is_closed(module, cats, functions))
+    Ok(is_closed(written, cats, functions))
 }
 
 /// Adds the names of all declarations, up to one that is not new, and says whether all were.

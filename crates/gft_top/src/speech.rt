@@ -182,21 +182,21 @@ fn add_names(
     functions: &mut Index,
     alloc: Global,
     base: &str,
-    module: &ConcreteModule,
+    written: &ConcreteModule,
 ) -> Result<bool, NoMemory>
     requires lincats { lincats.old ≡ [] }
     requires functions { functions.old ≡ [] }
-    ensures well { IfOk result (λ well. well ≡ has_names_once base.now module.now) }
-    ensures lincats { IfOk result (λ well. well ≡ true → lincats.new ≡ module.now.lincats) }
-    ensures functions { IfOk result (λ well. well ≡ true → functions.new ≡ map (λ lin. lin.fun) module.now.lins) }
+    ensures well { IfOk result (λ well. well ≡ has_names_once base.now written.now) }
+    ensures lincats { IfOk result (λ well. well ≡ true → lincats.new ≡ written.now.lincats) }
+    ensures functions { IfOk result (λ well. well ≡ true → functions.new ≡ map (λ lin. lin.fun) written.now.lins) }
 {
-    if !is_named(&module.name, base) {
+    if !is_named(&written.name, base) {
         return Ok(false);
     }
-    if !lincats.add_all(alloc, module.lincats.as_slice())? {
+    if !lincats.add_all(alloc, written.lincats.as_slice())? {
         return Ok(false);
     }
-    add_functions(functions, alloc, module.lins.as_slice())
+    add_functions(functions, alloc, written.lins.as_slice())
 }
 
 /// Adds the names of all linearized functions, up to one that is not new, and says whether all were.
