@@ -7,7 +7,8 @@ use Rattle.gft_syntax.specs.declared.bind.Bind.{Bind}
 use Rattle.gft_syntax.specs.declared.bind.Bind.TheVariants.{Variable, Nothing}
 use Rattle.gft_syntax.specs.declared.module.Inherited.TheVariants.{Whole, Only, Except}
 use Rattle.gft_syntax.specs.declared.module.Opened.TheVariants.{Plain, Qualified}
-use Rattle.gft_syntax.specs.declared.pattern.Pattern.{Pattern, out-Pattern}
+use Rattle.gft_syntax.specs.declared.pattern.Pattern.{Pattern, out-Pattern, roll-Pattern}
+use Rattle.gft_syntax.specs.declared.pattern.Pattern.TheViews.{roll-out-Pattern}
 use Rattle.gft_syntax.specs.declared.pattern.Pattern.TheOpen as P
 use Rattle.gft_syntax.specs.declared.reference.PlacedName.{PlacedName}
 use Rattle.gft_syntax.specs.declared.reference.Reference.TheVariants.{Written}
@@ -15,7 +16,8 @@ use Rattle.gft_syntax.specs.declared.term.Case.{Case}
 use Rattle.gft_syntax.specs.declared.term.Local.TheVariants.{Value, Label, TypedValue}
 use Rattle.gft_syntax.specs.declared.term.Sort.{Sort}
 use Rattle.gft_syntax.specs.declared.term.Sort.TheVariants as Sort-V
-use Rattle.gft_syntax.specs.declared.term.Term.{Term, out-Term}
+use Rattle.gft_syntax.specs.declared.term.Term.{Term, out-Term, roll-Term}
+use Rattle.gft_syntax.specs.declared.term.Term.TheViews.{roll-out-Term}
 use Rattle.gft_syntax.specs.declared.term.Term.TheOpen as T
 use Rattle.gft_syntax.specs.declared.token.Reserved.{Reserved as Word}
 use Rattle.gft_syntax.specs.declared.token.Reserved.TheVariants as W
@@ -29,8 +31,23 @@ use Rattle.gft_model.specs.Grammar.{Form, Piece, symbol, word, identifier, numbe
 pub use Rattle.gft_model.specs.Grammar.{Tokens, Is, IsReserved, IsNamed, IsNumber, IsQuoted, first_place, FirstAt, placed,
     distinct, are_fields, Level, exp, exp1, exp2, exp3, exp4, exp5, exp6, PatternLevel, patt, patt1, patt2, patt3, patt4,
     Part, term, pattern, local, branch, field, alternative, context, constructor, name, bind, placed_name, category_name,
-    inherited, opened, substitution, listed, semicolons, many, Meaning, Tighter, below_exp, below_exp1, below_exp2,
-    below_exp3, below_exp4, below_exp5, TighterPattern, below_patt, below_patt1, below_patt2, below_patt3}
+    inherited, opened, substitution, listed, semicolons, many, Meaning}
+
+-- the next tighter level, whose forms are forms of the looser one too
+pub data Tighter : Level → Level → Type 0 where
+  below_exp : Tighter exp exp1
+  below_exp1 : Tighter exp1 exp2
+  below_exp2 : Tighter exp2 exp3
+  below_exp3 : Tighter exp3 exp4
+  below_exp4 : Tighter exp4 exp5
+  below_exp5 : Tighter exp5 exp6
+
+-- the same of patterns
+pub data TighterPattern : PatternLevel → PatternLevel → Type 0 where
+  below_patt : TighterPattern patt patt1
+  below_patt1 : TighterPattern patt1 patt2
+  below_patt2 : TighterPattern patt2 patt3
+  below_patt3 : TighterPattern patt3 patt4
 
 -- a form of two terms at a place
 abbrev pub TermForm : Type 0
@@ -221,6 +238,13 @@ named x p = record { name = x; place = p }
 abbrev named_list : List ℕ → Place → PlacedName
 named_list x p = record { name = list_name x; place = p }
 
+-- terms and patterns of one layer
+same_term : {e f : Term} → out-Term e ≡ out-Term f → e ≡ f
+same_term {e} {f} h = sym (roll-out-Term e) ∙ ap roll-Term h ∙ roll-out-Term f
+
+same_pattern : {p q : Pattern} → out-Pattern p ≡ out-Pattern q → p ≡ q
+same_pattern {p} {q} h = sym (roll-out-Pattern p) ∙ ap roll-Pattern h ∙ roll-out-Pattern q
+
 -- the tokens spell what is equal
 same_meaning : {g : Part} {ts rest : Tokens} {a b : Meaning g} → a ≡ b → Spells g ts b rest → Spells g ts a rest
 same_meaning {g} {ts} {rest} e d = subst (λ x. Spells g ts x rest) (sym e) d
@@ -255,6 +279,7 @@ data SpelledPieces : (g : Part) (ps : List Piece) → Maker g ps → Place → T
 by_exp : {ps : List Piece} {make : Maker (term exp) ps} {p : Place} {ts rest : Tokens} {a : Meaning (term exp)}
     → Form (term exp) ps make → FirstAt ts p
     → SpelledPieces (term exp) ps make p ts (out-Term a) rest → Spells (term exp) ts a rest
+by_exp F.below_exp first (next_part d (no_piece is)) = same_meaning (same_term is) (tighter_term below_exp d)
 by_exp F.alternatives first (next_part {a = v0} d0 (next_symbol h1 (next_part {a = v2} d2 (no_piece is)))) =
     infix_term alternatives d0 h1 d2 first is
 by_exp F.table_type first (next_part {a = v0} d0 (next_symbol h1 (next_part {a = v2} d2 (no_piece is)))) =
@@ -280,18 +305,21 @@ by_exp F.where_locals first
 by_exp1 : {ps : List Piece} {make : Maker (term exp1) ps} {p : Place} {ts rest : Tokens} {a : Meaning (term exp1)}
     → Form (term exp1) ps make → FirstAt ts p
     → SpelledPieces (term exp1) ps make p ts (out-Term a) rest → Spells (term exp1) ts a rest
+by_exp1 F.below_exp1 first (next_part d (no_piece is)) = same_meaning (same_term is) (tighter_term below_exp1 d)
 by_exp1 F.append first (next_part {a = v0} d0 (next_symbol h1 (next_part {a = v2} d2 (no_piece is)))) =
     infix_term append d0 h1 d2 first is
 
 by_exp2 : {ps : List Piece} {make : Maker (term exp2) ps} {p : Place} {ts rest : Tokens} {a : Meaning (term exp2)}
     → Form (term exp2) ps make → FirstAt ts p
     → SpelledPieces (term exp2) ps make p ts (out-Term a) rest → Spells (term exp2) ts a rest
+by_exp2 F.below_exp2 first (next_part d (no_piece is)) = same_meaning (same_term is) (tighter_term below_exp2 d)
 by_exp2 F.glue first (next_part {a = v0} d0 (next_symbol h1 (next_part {a = v2} d2 (no_piece is)))) =
     infix_term glue d0 h1 d2 first is
 
 by_exp3 : {ps : List Piece} {make : Maker (term exp3) ps} {p : Place} {ts rest : Tokens} {a : Meaning (term exp3)}
     → Form (term exp3) ps make → FirstAt ts p
     → SpelledPieces (term exp3) ps make p ts (out-Term a) rest → Spells (term exp3) ts a rest
+by_exp3 F.below_exp3 first (next_part d (no_piece is)) = same_meaning (same_term is) (tighter_term below_exp3 d)
 by_exp3 F.selection first (next_part {a = v0} d0 (next_symbol h1 (next_part {a = v2} d2 (no_piece is)))) =
     infix_term selection d0 h1 d2 first is
 by_exp3 F.extension first (next_part {a = v0} d0 (next_symbol h1 (next_part {a = v2} d2 (no_piece is)))) =
@@ -310,6 +338,7 @@ by_exp3 F.table_list first (next_word h0
 by_exp4 : {ps : List Piece} {make : Maker (term exp4) ps} {p : Place} {ts rest : Tokens} {a : Meaning (term exp4)}
     → Form (term exp4) ps make → FirstAt ts p
     → SpelledPieces (term exp4) ps make p ts (out-Term a) rest → Spells (term exp4) ts a rest
+by_exp4 F.below_exp4 first (next_part d (no_piece is)) = same_meaning (same_term is) (tighter_term below_exp4 d)
 by_exp4 F.application first (next_part {a = v0} d0 (next_part {a = v1} d1 (no_piece is))) =
     application d0 d1 first is
 by_exp4 F.case_of first (next_word h0
@@ -321,12 +350,15 @@ by_exp4 F.variants first (next_word h0 (next_symbol h1 (next_part {a = v2} d2 (n
 by_exp5 : {ps : List Piece} {make : Maker (term exp5) ps} {p : Place} {ts rest : Tokens} {a : Meaning (term exp5)}
     → Form (term exp5) ps make → FirstAt ts p
     → SpelledPieces (term exp5) ps make p ts (out-Term a) rest → Spells (term exp5) ts a rest
+by_exp5 F.below_exp5 first (next_part d (no_piece is)) = same_meaning (same_term is) (tighter_term below_exp5 d)
 by_exp5 F.projection first (next_part {a = v0} d0 (next_symbol h1 (next_identifier {x = v2} h2 (no_piece is)))) =
     projection d0 h1 h2 first is
 
 by_exp6 : {ps : List Piece} {make : Maker (term exp6) ps} {p : Place} {ts rest : Tokens} {a : Meaning (term exp6)}
     → Form (term exp6) ps make → FirstAt ts p
     → SpelledPieces (term exp6) ps make p ts (out-Term a) rest → Spells (term exp6) ts a rest
+by_exp6 F.in_parentheses first (next_symbol h (next_part d (next_symbol i (no_piece is)))) =
+    same_meaning (same_term is) (in_parentheses h d i)
 by_exp6 F.variable first (next_identifier {x = v0} h0 (no_piece is)) =
     variable h0 (at_first (T.Var (Written v0)) first is)
 by_exp6 F.literal first (next_text {x = v0} h0 (no_piece is)) =
@@ -360,18 +392,21 @@ by_exp6 F.typed first (next_symbol h0
 by_patt : {ps : List Piece} {make : Maker (pattern patt) ps} {p : Place} {ts rest : Tokens} {a : Meaning (pattern patt)}
     → Form (pattern patt) ps make → FirstAt ts p
     → SpelledPieces (pattern patt) ps make p ts (out-Pattern a) rest → Spells (pattern patt) ts a rest
+by_patt F.below_patt first (next_part d (no_piece is)) = same_meaning (same_pattern is) (tighter_pattern below_patt d)
 by_patt F.either first (next_part {a = v0} d0 (next_symbol h1 (next_part {a = v2} d2 (no_piece is)))) =
     infix_pattern either d0 h1 d2 first is
 
 by_patt1 : {ps : List Piece} {make : Maker (pattern patt1) ps} {p : Place} {ts rest : Tokens} {a : Meaning (pattern patt1)} →
     Form (pattern patt1) ps make → FirstAt ts p
     → SpelledPieces (pattern patt1) ps make p ts (out-Pattern a) rest → Spells (pattern patt1) ts a rest
+by_patt1 F.below_patt1 first (next_part d (no_piece is)) = same_meaning (same_pattern is) (tighter_pattern below_patt1 d)
 by_patt1 F.in_sequence first (next_part {a = v0} d0 (next_symbol h1 (next_part {a = v2} d2 (no_piece is)))) =
     infix_pattern in_sequence d0 h1 d2 first is
 
 by_patt2 : {ps : List Piece} {make : Maker (pattern patt2) ps} {p : Place} {ts rest : Tokens} {a : Meaning (pattern patt2)} →
     Form (pattern patt2) ps make → FirstAt ts p
     → SpelledPieces (pattern patt2) ps make p ts (out-Pattern a) rest → Spells (pattern patt2) ts a rest
+by_patt2 F.below_patt2 first (next_part d (no_piece is)) = same_meaning (same_pattern is) (tighter_pattern below_patt2 d)
 by_patt2 F.constructor_with first (next_identifier {x = v0} h0 (next_part {a = v1} d1 (next_part {a = v2} d2 (no_piece is)))) =
     constructor_with h0 (some d1 d2) (at_first (P.Con None (Written v0) (v1 ∷ v2)) first is)
 by_patt2 F.constructor_of first (next_identifier {x =
@@ -381,6 +416,7 @@ by_patt2 F.constructor_of first (next_identifier {x =
 by_patt3 : {ps : List Piece} {make : Maker (pattern patt3) ps} {p : Place} {ts rest : Tokens} {a : Meaning (pattern patt3)} →
     Form (pattern patt3) ps make → FirstAt ts p
     → SpelledPieces (pattern patt3) ps make p ts (out-Pattern a) rest → Spells (pattern patt3) ts a rest
+by_patt3 F.below_patt3 first (next_part d (no_piece is)) = same_meaning (same_pattern is) (tighter_pattern below_patt3 d)
 by_patt3 F.star first (next_part {a = v0} d0 (next_symbol h1 (no_piece is))) =
     star d0 h1 first is
 by_patt3 F.as_pattern first (next_identifier {x = v0} h0 (next_symbol h1 (next_part {a = v2} d2 (no_piece is)))) =
@@ -389,6 +425,8 @@ by_patt3 F.as_pattern first (next_identifier {x = v0} h0 (next_symbol h1 (next_p
 by_patt4 : {ps : List Piece} {make : Maker (pattern patt4) ps} {p : Place} {ts rest : Tokens} {a : Meaning (pattern patt4)} →
     Form (pattern patt4) ps make → FirstAt ts p
     → SpelledPieces (pattern patt4) ps make p ts (out-Pattern a) rest → Spells (pattern patt4) ts a rest
+by_patt4 F.pattern_in_parentheses first (next_symbol h (next_part d (next_symbol i (no_piece is)))) =
+    same_meaning (same_pattern is) (pattern_in_parentheses h d i)
 by_patt4 F.anything first (next_symbol h0 (no_piece is)) =
     anything h0 (at_first P.Any first is)
 by_patt4 F.character first (next_symbol h0 (no_piece is)) =
@@ -540,10 +578,6 @@ mutual
   -- what the table spells, the rules spell
   pub ruled : {g : Part} {ts rest : Tokens} {a : Meaning g} → F.Spells g ts a rest → Spells g ts a rest
   ruled {g} (F.by_form f first ps) = by_any g f first (ruled_pieces ps)
-  ruled (F.tighter_term w d) = tighter_term w (ruled d)
-  ruled (F.tighter_pattern w d) = tighter_pattern w (ruled d)
-  ruled (F.in_parentheses h d i) = in_parentheses h (ruled d) i
-  ruled (F.pattern_in_parentheses h d i) = pattern_in_parentheses h (ruled d) i
   ruled (F.one d) = one (ruled d)
   ruled (F.more d h e) = more (ruled d) h (ruled e)
   ruled F.empty = empty

@@ -178,10 +178,6 @@ tabled (Rules.instance_of h0 h1 h2 h3 h4) =
     F.by_form F.instance_of refl (F.next_symbol h0 (F.next_part (F.by_form F.a_placed_name refl (F.next_identifier h1
         (F.no_piece refl))) (F.next_symbol h2 (F.next_part (F.by_form F.a_placed_name refl (F.next_identifier h3 (F.no_piece
         refl))) (F.next_symbol h4 (F.no_piece refl))))))
-tabled (Rules.tighter_term w d) = F.tighter_term w (tabled d)
-tabled (Rules.tighter_pattern w d) = F.tighter_pattern w (tabled d)
-tabled (Rules.in_parentheses h d i) = F.in_parentheses h (tabled d) i
-tabled (Rules.pattern_in_parentheses h d i) = F.pattern_in_parentheses h (tabled d) i
 tabled (Rules.one d) = F.one (tabled d)
 tabled (Rules.more d h e) = F.more (tabled d) h (tabled e)
 tabled Rules.empty = F.empty
@@ -189,3 +185,27 @@ tabled (Rules.last d) = F.last (tabled d)
 tabled (Rules.next d h e) = F.next (tabled d) h (tabled e)
 tabled Rules.none = F.none
 tabled (Rules.some d e) = F.some (tabled d) (tabled e)
+tabled (Rules.tighter_term Rules.below_exp d) =
+    F.by_form F.below_exp (placed_at refl d).1 (F.next_part (tabled d) (F.no_piece refl))
+tabled (Rules.tighter_term Rules.below_exp1 d) =
+    F.by_form F.below_exp1 (placed_at refl d).1 (F.next_part (tabled d) (F.no_piece refl))
+tabled (Rules.tighter_term Rules.below_exp2 d) =
+    F.by_form F.below_exp2 (placed_at refl d).1 (F.next_part (tabled d) (F.no_piece refl))
+tabled (Rules.tighter_term Rules.below_exp3 d) =
+    F.by_form F.below_exp3 (placed_at refl d).1 (F.next_part (tabled d) (F.no_piece refl))
+tabled (Rules.tighter_term Rules.below_exp4 d) =
+    F.by_form F.below_exp4 (placed_at refl d).1 (F.next_part (tabled d) (F.no_piece refl))
+tabled (Rules.tighter_term Rules.below_exp5 d) =
+    F.by_form F.below_exp5 (placed_at refl d).1 (F.next_part (tabled d) (F.no_piece refl))
+tabled (Rules.tighter_pattern Rules.below_patt d) =
+    F.by_form F.below_patt (placed_at refl d).1 (F.next_part (tabled d) (F.no_piece refl))
+tabled (Rules.tighter_pattern Rules.below_patt1 d) =
+    F.by_form F.below_patt1 (placed_at refl d).1 (F.next_part (tabled d) (F.no_piece refl))
+tabled (Rules.tighter_pattern Rules.below_patt2 d) =
+    F.by_form F.below_patt2 (placed_at refl d).1 (F.next_part (tabled d) (F.no_piece refl))
+tabled (Rules.tighter_pattern Rules.below_patt3 d) =
+    F.by_form F.below_patt3 (placed_at refl d).1 (F.next_part (tabled d) (F.no_piece refl))
+tabled (Rules.in_parentheses h d i) =
+    F.by_form F.in_parentheses refl (F.next_symbol h (F.next_part (tabled d) (F.next_symbol i (F.no_piece refl))))
+tabled (Rules.pattern_in_parentheses h d i) =
+    F.by_form F.pattern_in_parentheses refl (F.next_symbol h (F.next_part (tabled d) (F.next_symbol i (F.no_piece refl))))

@@ -28,8 +28,8 @@ use Rattle.gft_syntax.specs.declared.token.TokenForm.TheVariants.{Identifier, Re
 use Rattle.gft_syntax.specs.declared.token.Reserved.TheVariants as W
 use Rattle.gft_syntax.specs.declared.token.Symbol.TheVariants as S
 use Rattle.gft_model.specs.Grammar as F
-use Rattle.gft_model.specs.Grammar.{Spells, SpellsTerm, SpellsPattern, Tokens, exp3, exp, exp4, patt, listed, inherited, term, placed, below_exp, below_exp1, below_exp2, below_exp3, below_exp4, below_exp5, below_patt, below_patt1, below_patt2, below_patt3}
-use Rattle.gft_model.proofs.GrammarRules.{Spells as IsRuled, ruled, some, literal, empty, table_over, fields, sort, strings, constructor_with, whole, instance_of, one, none, a_placed_name, infix_term, tighter_term, glue, selection, function_type, variable, infix_pattern, tighter_pattern, in_sequence, named_pattern, text_pattern}
+use Rattle.gft_model.specs.Grammar.{Spells, SpellsTerm, SpellsPattern, Tokens, exp3, exp, exp4, patt, listed, inherited, term, placed}
+use Rattle.gft_model.proofs.GrammarRules.{Spells as IsRuled, ruled, below_exp, below_exp1, below_exp2, below_exp3, below_exp4, below_exp5, below_patt, below_patt1, below_patt2, below_patt3, some, literal, empty, table_over, fields, sort, strings, constructor_with, whole, instance_of, one, none, a_placed_name, infix_term, tighter_term, glue, selection, function_type, variable, infix_pattern, tighter_pattern, in_sequence, named_pattern, text_pattern}
 use Rattle.gft_model.proofs.GrammarTable.{tabled}
 use Rattle.gft_model.specs.ModuleGrammar.{AtEnd, SpellsJudgement, SpellsRest, incomplete_module, opening_body, typed_oper, by_term, parameter_type, linearization, module_of, a_concrete, functor, functor_with_body, inherited_alone, inherited_before, after_semicolon, SpellsSlice, slices_of, category, function, with_keyword, goes_on, no_slice, empty_slice, slice, closed_body, plain_module, an_abstract, nothing_before, own_body, at_once, SpellsModule, a_module}
 use Rattle.gft_model.proofs.ReadingTokens.{after, past, seen, named, from, then, given}

@@ -89,22 +89,6 @@ pub data Level : Type 0 where
 pub data PatternLevel : Type 0 where
   patt patt1 patt2 patt3 patt4 : PatternLevel
 
--- the next tighter level, whose forms are forms of the looser one too
-pub data Tighter : Level → Level → Type 0 where
-  below_exp : Tighter exp exp1
-  below_exp1 : Tighter exp1 exp2
-  below_exp2 : Tighter exp2 exp3
-  below_exp3 : Tighter exp3 exp4
-  below_exp4 : Tighter exp4 exp5
-  below_exp5 : Tighter exp5 exp6
-
--- the same of patterns
-pub data TighterPattern : PatternLevel → PatternLevel → Type 0 where
-  below_patt : TighterPattern patt patt1
-  below_patt1 : TighterPattern patt1 patt2
-  below_patt2 : TighterPattern patt2 patt3
-  below_patt3 : TighterPattern patt3 patt4
-
 -- the parts of the grammar; of a part there may be one or more with a symbol between, any number with
 -- semicolons between and one allowed last, and any number one after the other
 pub data Part : Type 0 where
@@ -177,8 +161,14 @@ Maker g (number ∷ ps) = ℕ → Maker g ps
 Maker g (text ∷ ps) = List ℕ → Maker g ps
 Maker g (part_where h test ∷ ps) = Meaning h → Maker g ps
 
--- the forms of each part: their pieces, and what they are
+-- the forms of each part: their pieces, and what they are; those of a tighter level are forms of the looser one too
 pub data Form : (g : Part) (ps : List Piece) → Maker g ps → Type 0 where
+  below_exp : Form (term exp) (part (term exp1) ∷ []) (λ e p. out-Term e)
+  below_exp1 : Form (term exp1) (part (term exp2) ∷ []) (λ e p. out-Term e)
+  below_exp2 : Form (term exp2) (part (term exp3) ∷ []) (λ e p. out-Term e)
+  below_exp3 : Form (term exp3) (part (term exp4) ∷ []) (λ e p. out-Term e)
+  below_exp4 : Form (term exp4) (part (term exp5) ∷ []) (λ e p. out-Term e)
+  below_exp5 : Form (term exp5) (part (term exp6) ∷ []) (λ e p. out-Term e)
   alternatives : Form (term exp) (part (term exp1) ∷ symbol S.Bar ∷ part (term exp) ∷ []) T.Alt
   table_type : Form (term exp) (part (term exp3) ∷ symbol S.DoubleArrow ∷ part (term exp) ∷ []) T.TabType
   function_type : Form (term exp) (part (term exp4) ∷ symbol S.Arrow ∷ part (term exp) ∷ []) (T.Arrow [])
@@ -216,6 +206,12 @@ pub data Form : (g : Part) (ps : List Piece) → Maker g ps → Type 0 where
   a_record : Form (term exp6) (in_braces (part_where (semicolons local) are_fields)) T.Fields
   tuple : Form (term exp6) (symbol S.Less ∷ part (listed S.Comma (term exp)) ∷ symbol S.Greater ∷ []) T.Tuple
   typed : Form (term exp6) (symbol S.Less ∷ part (term exp) ∷ symbol S.Colon ∷ part (term exp) ∷ symbol S.Greater ∷ []) T.Typed
+  in_parentheses : Form (term exp6) (symbol S.LeftParenthesis ∷ part (term exp) ∷ symbol S.RightParenthesis ∷ [])
+      (λ e p. out-Term e)
+  below_patt : Form (pattern patt) (part (pattern patt1) ∷ []) (λ q p. out-Pattern q)
+  below_patt1 : Form (pattern patt1) (part (pattern patt2) ∷ []) (λ q p. out-Pattern q)
+  below_patt2 : Form (pattern patt2) (part (pattern patt3) ∷ []) (λ q p. out-Pattern q)
+  below_patt3 : Form (pattern patt3) (part (pattern patt4) ∷ []) (λ q p. out-Pattern q)
   either : Form (pattern patt) (part (pattern patt) ∷ symbol S.Bar ∷ part (pattern patt1) ∷ []) P.Or
   in_sequence : Form (pattern patt1) (part (pattern patt1) ∷ symbol S.Plus ∷ part (pattern patt2) ∷ []) P.Seq
   constructor_with : Form (pattern patt2) (identifier ∷ part (pattern patt4) ∷ part (many (pattern patt4)) ∷ [])
@@ -232,6 +228,8 @@ pub data Form : (g : Part) (ps : List Piece) → Maker g ps → Type 0 where
   record_pattern : Form (pattern patt4)
       (in_braces (part_where (semicolons field) (λ fs. distinct (flat_map (λ f. f.labels) fs)))) P.Fields
   tuple_pattern : Form (pattern patt4) (symbol S.Less ∷ part (listed S.Comma (pattern patt)) ∷ symbol S.Greater ∷ []) P.Tuple
+  pattern_in_parentheses : Form (pattern patt4) (symbol S.LeftParenthesis ∷ part (pattern patt) ∷ symbol S.RightParenthesis ∷ [])
+      (λ q p. out-Pattern q)
   local_value : Form local (part (listed S.Comma name) ∷ symbol S.Equals ∷ part (term exp) ∷ []) (λ xs e p. Value xs e)
   local_type : Form local (part (listed S.Comma name) ∷ symbol S.Colon ∷ part (term exp) ∷ []) (λ xs t p. Label xs t)
   typed_local : Form local (part (listed S.Comma name) ∷ symbol S.Colon ∷ part (term exp) ∷ symbol S.Equals
@@ -267,12 +265,6 @@ mutual
   pub data Spells : (g : Part) → Tokens → Meaning g → Tokens → Type 0 where
     by_form : {g ps make p ts a rest : _} → Form g ps make → FirstAt ts p → SpellsPieces g ps make p ts (layer g a) rest →
         Spells g ts a rest
-    tighter_term : {i j ts e rest : _} → Tighter i j → Spells (term j) ts e rest → Spells (term i) ts e rest
-    tighter_pattern : {i j ts q rest : _} → TighterPattern i j → Spells (pattern j) ts q rest → Spells (pattern i) ts q rest
-    in_parentheses : {t u ts e rest : _} → Is S.LeftParenthesis t → Spells (term exp) ts e (u ∷ rest) →
-        Is S.RightParenthesis u → Spells (term exp6) (t ∷ ts) e rest
-    pattern_in_parentheses : {t u ts q rest : _} → Is S.LeftParenthesis t → Spells (pattern patt) ts q (u ∷ rest) →
-        Is S.RightParenthesis u → Spells (pattern patt4) (t ∷ ts) q rest
     one : {g s ts a rest : _} → Spells g ts a rest → Spells (listed s g) ts (a ∷ []) rest
     more : {g s t ts us a bs rest : _} → Spells g ts a (t ∷ us) → Is s t → Spells (listed s g) us bs rest →
         Spells (listed s g) ts (a ∷ bs) rest
