@@ -7,7 +7,8 @@ use Rattle.gft_syntax.specs.declared.reference.Whole.{Whole}
 use Rattle.gft_syntax.specs.declared.term.Term.{Term, roll-Term}
 use Rattle.gft_syntax.specs.declared.term.Term.TheOpen as F
 use Rattle.gft_syntax.specs.declared.term.Term.TheFolds.{fold-roll-Term}
-use Rattle.gft_model.specs.Items.{Item, oper, lin}
+use Rattle.gft_syntax.specs.declared.judgement.Keyword.TheVariants as K
+use Rattle.gft_model.specs.Items.{Item, oper, linear}
 use Rattle.gft_model.specs.Resting.{item_names, answers_to, Rests, names_it, and_so_on, NoCycle}
 
 abbrev nowhere : Place
@@ -27,7 +28,7 @@ abbrev an_oper : Item
 an_oper = oper f None (Some word)
 
 abbrev a_lin : Item
-a_lin = lin (codes "L") f name
+a_lin = linear K.Lin (codes "L") f name
 
 abbrev both : List Item
 both = an_oper ∷ a_lin ∷ []

@@ -7,7 +7,7 @@ use Rattle.gft_syntax.specs.declared.flat.Flat.{Flat}
 use Rattle.gft_syntax.specs.declared.judgement.Keyword.{Keyword}
 use Rattle.gft_syntax.specs.declared.linear.LinTerm.{LinTerm}
 use Rattle.gft_model.specs.Items.{Item, lincat}
-use Rattle.gft_model.specs.JudgementTyping.{items, IsSort, Signature, HasLinType, of_int, of_string, of_category, HasGiven, of_function, from_string, to_string, HasTyping, parameter, undefined_parameter, named_type, typed_oper, undefined_oper, found_type, found_oper, of_overload, linearization_type, linearization, of_lindef, of_linref, IsTyped}
+use Rattle.gft_model.specs.JudgementTyping.{items, IsSort, Signature, HasLinType, of_int, of_string, of_category, HasGiven, of_function, from_string, to_string, HasTyping, parameter, undefined_parameter, named_type, typed_oper, undefined_oper, found_type, found_oper, of_overload, linearization_type, linearization, IsTyped}
 use Rattle.gft_model.specs.SourceLaws.{HasOneLincat}
 use Rattle.gft_model.specs.TypeForms.{str_type, function_type, functions}
 use Rattle.gft_model.proofs.FoundTypes.{find-once, check-once}
@@ -81,14 +81,8 @@ module _ (flat : Flat) (one : HasOneLincat flat) where
   typing-once (linearization_type a0 a1) (linearization_type b0 b1) e = (refl, type-once (items flat) a0 b0 (cc))
   typing-once (linearization_type a0 a1) d e = (cc, cc)
   typing-once (linearization a0 a1) (linearization b0 b1) e =
-      let i = given-once a0 b0 (cc) refl (cc) in (check-once (items flat) a1 b1 refl (cc) i, i)
+      let i = given-once a0 b0 (cc) (cc) (cc) in (check-once (items flat) a1 b1 refl (cc) i, i)
   typing-once (linearization a0 a1) d e = (cc, cc)
-  typing-once (of_lindef a0 a1) (of_lindef b0 b1) e =
-      let i = given-once a0 b0 (cc) refl (cc) in (check-once (items flat) a1 b1 refl (cc) i, i)
-  typing-once (of_lindef a0 a1) d e = (cc, cc)
-  typing-once (of_linref a0 a1) (of_linref b0 b1) e =
-      let i = given-once a0 b0 (cc) refl (cc) in (check-once (items flat) a1 b1 refl (cc) i, i)
-  typing-once (of_linref a0 a1) d e = (cc, cc)
 
   pub judgement-once : (k : ℕ) (t u : LinTerm) (T U : CType) → IsTyped flat k t T → IsTyped flat k u U → (t ≡ u) × (T ≡ U)
   judgement-once k t u T U a b = let h = a.1 in let i = b.1 in typing-once a.2 b.2 (cc)

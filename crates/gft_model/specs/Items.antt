@@ -9,22 +9,23 @@ use Rattle.gft_syntax.specs.declared.judgement.Definition.{Definition}
 use Rattle.gft_syntax.specs.declared.judgement.Definition.TheVariants as Definition-V
 use Rattle.gft_syntax.specs.declared.judgement.Judgement.{Judgement}
 use Rattle.gft_syntax.specs.declared.judgement.Judgement.TheVariants as Judgement-V
+use Rattle.gft_syntax.specs.declared.judgement.Keyword.{Keyword}
+use Rattle.gft_syntax.specs.declared.judgement.Keyword.TheVariants as K
 use Rattle.gft_syntax.specs.declared.flat.Flat.{Flat}
 use Rattle.gft_syntax.specs.declared.flat.FlatJudgement.{FlatJudgement}
 use Rattle.gft_syntax.specs.Parts.{bind_place}
 
 -- a numbered judgement: a parameter type with its constructors or without; an oper with its type
 -- and its definition, where they are there; an alternative of an overload, after the type and the
--- arguments that stand before the word overload; and those of a concrete module, with its name
+-- arguments that stand before the word overload; a lincat of a concrete module, with the module's name; and a lin,
+-- lindef or linref of one, by its keyword
 pub data Item : Type 0 where
   parameter_type : Whole → List Constructor → Item
   bare_parameter : Whole → Item
   oper : Whole → Option Term → Option Term → Item
   alternative : Whole → Option Term → List Bind → Term → Term → Item
   lincat : List ℕ → Whole → Term → Item
-  lin : List ℕ → Whole → Term → Item
-  lindef : List ℕ → Whole → Term → Item
-  linref : List ℕ → Whole → Term → Item
+  linear : Keyword → List ℕ → Whole → Term → Item
 
 -- arguments before the = are a lambda at the place of the first
 abbrev pub with_arguments : List Bind → Term → Term
@@ -39,9 +40,9 @@ defined w T xs (Definition-V.Overload ds) = map (λ d. alternative w T xs d.of_t
 -- the items of a judgement; lang is the concrete module that has it
 abbrev pub items_in : List ℕ → Whole → Judgement → List Item
 items_in lang w (Judgement-V.Lincat ns T) = lincat lang w T ∷ []
-items_in lang w (Judgement-V.Lin ns xs e) = lin lang w (with_arguments xs e) ∷ []
-items_in lang w (Judgement-V.Lindef ns xs e) = lindef lang w (with_arguments xs e) ∷ []
-items_in lang w (Judgement-V.Linref ns xs e) = linref lang w (with_arguments xs e) ∷ []
+items_in lang w (Judgement-V.Lin ns xs e) = linear K.Lin lang w (with_arguments xs e) ∷ []
+items_in lang w (Judgement-V.Lindef ns xs e) = linear K.Lindef lang w (with_arguments xs e) ∷ []
+items_in lang w (Judgement-V.Linref ns xs e) = linear K.Linref lang w (with_arguments xs e) ∷ []
 items_in lang w (Judgement-V.ParamName n) = bare_parameter w ∷ []
 items_in lang w (Judgement-V.Param n cs) = parameter_type w cs ∷ []
 items_in lang w (Judgement-V.OperType ns T) = oper w (Some T) None ∷ []

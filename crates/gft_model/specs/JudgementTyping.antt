@@ -19,7 +19,7 @@ use Rattle.gft_syntax.specs.declared.term.Term.{Term}
 use Rattle.gft_syntax.specs.declared.term.Term.TheOpen as Term-F
 use Rattle.gft_syntax.specs.declared.term.Term.TheFolds.{fold-Term}
 use Rattle.gft_model.specs.ConcreteTyping.{At, IsType, IsParameter, IsData, Finds, Checks, for_each}
-use Rattle.gft_model.specs.Items.{Item, items_of, parameter_type, bare_parameter, oper, alternative, lincat, lin, lindef, linref}
+use Rattle.gft_model.specs.Items.{Item, items_of, parameter_type, bare_parameter, oper, alternative, lincat, linear}
 use Rattle.gft_model.specs.Resting.{NoCycle}
 use Rattle.gft_model.specs.TypeForms.{str_type, record_type, function_type, functions, sort_type, sort_param, made, no_value}
 
@@ -111,12 +111,8 @@ module _ (flat : Flat) where
     of_overload : {w e D d T t : _} → All (λ E. (A : CType) × IsType items E A) (option_to_list e) →
         IsType items D T → Checks items [] d T t → NoCycle items w → HasTyping (alternative w e [] D d) t T
     linearization_type : {lang w e T : _} → IsType items e T → IsData T → HasTyping (lincat lang w e) no_value T
-    linearization : {lang : _} {w : Whole} {e T t : _} → HasGiven lang K.Lin w.name T → Checks items [] e T t →
-        HasTyping (lin lang w e) t T
-    of_lindef : {lang : _} {w : Whole} {e T t : _} → HasGiven lang K.Lindef w.name T → Checks items [] e T t →
-        HasTyping (lindef lang w e) t T
-    of_linref : {lang : _} {w : Whole} {e T t : _} → HasGiven lang K.Linref w.name T → Checks items [] e T t →
-        HasTyping (linref lang w e) t T
+    linearization : {k lang : _} {w : Whole} {e T t : _} → HasGiven lang k w.name T → Checks items [] e T t →
+        HasTyping (linear k lang w e) t T
 
   -- what typing gives for the judgement of that number
   abbrev pub IsTyped : ℕ → LinTerm → CType → Type 0

@@ -8,16 +8,16 @@ use Rattle.gft_syntax.specs.declared.judgement.Keyword.TheVariants as K
 use Rattle.gft_syntax.specs.declared.linear.LinTerm.{LinTerm}
 use Rattle.gft_syntax.specs.declared.linear.Typed.{Typed}
 use Rattle.gft_syntax.specs.declared.value.Value.{Value}
-use Rattle.gft_model.specs.Items.{Item, items_of, lincat, lin, lindef, linref}
+use Rattle.gft_model.specs.Items.{Item, items_of, lincat, linear}
 use Rattle.gft_model.specs.JudgementTyping.{literal_type, signature_in}
 use Rattle.gft_model.specs.Outcomes.{Outcome, outcomes, Results, plain, function, none, and_then, results_of, opers_of, no_environment}
 
 -- a judgement of that keyword in a language, by its name
 abbrev pub is_judgement : Keyword → List ℕ → List ℕ → Item → Bool
 is_judgement K.Lincat lang x (lincat l w e) = bytes_eq lang l && bytes_eq x w.name
-is_judgement K.Lin lang x (lin l w e) = bytes_eq lang l && bytes_eq x w.name
-is_judgement K.Lindef lang x (lindef l w e) = bytes_eq lang l && bytes_eq x w.name
-is_judgement K.Linref lang x (linref l w e) = bytes_eq lang l && bytes_eq x w.name
+is_judgement K.Lin lang x (linear K.Lin l w e) = bytes_eq lang l && bytes_eq x w.name
+is_judgement K.Lindef lang x (linear K.Lindef l w e) = bytes_eq lang l && bytes_eq x w.name
+is_judgement K.Linref lang x (linear K.Linref l w e) = bytes_eq lang l && bytes_eq x w.name
 is_judgement k lang x i = false
 
 -- what typing gave for the first such judgement

@@ -2,7 +2,7 @@
 use Rattle.std.specs.Prelude.{List, [], ◌∷◌, ◌++◌, map, flat_map, Contains, option_to_list}
 use Rattle.gft_syntax.specs.declared.reference.Whole.{Whole}
 use Rattle.gft_syntax.specs.Parts.{names_in}
-use Rattle.gft_model.specs.Items.{Item, parameter_type, bare_parameter, oper, alternative, lincat, lin, lindef, linref}
+use Rattle.gft_model.specs.Items.{Item, parameter_type, bare_parameter, oper, alternative, lincat, linear}
 
 -- the whole names in an item
 abbrev pub item_names : Item → List Whole
@@ -11,9 +11,7 @@ item_names (bare_parameter w) = []
 item_names (oper w t d) = flat_map names_in (option_to_list t ++ option_to_list d)
 item_names (alternative w t xs D d) = flat_map names_in (option_to_list t ++ D ∷ d ∷ [])
 item_names (lincat lang w e) = names_in e
-item_names (lin lang w e) = names_in e
-item_names (lindef lang w e) = names_in e
-item_names (linref lang w e) = names_in e
+item_names (linear k lang w e) = names_in e
 
 -- the names by which terms name an item: its own, and those of constructors, which count as their
 -- parameter type; terms name no lincat, lin, lindef or linref
