@@ -148,7 +148,7 @@ two_is_left_out =
 abbrev empty_table : Term
 empty_table = roll-Term (T.TableOf None [] (here 4 11))
 
-pub no_branch_to_find : TypeFaults.BreaksTerm exh [] empty_table (TypingSites.over str_type) TypingSites.selected R.NoType []
+pub no_branch_to_find : TypeFaults.BreaksTerm exh [] empty_table (TypingSites.over str_type) TypingSites.selected [] R.NoType []
 no_branch_to_find = TypeFaults.no_branch_over (form-roll _) refl
 
 -- oper f = overload {f : Type = Str} ; x : f: that oper is a Type and names none
@@ -200,7 +200,7 @@ no_alternatives = record exh {
   opers = record { whole = whole (codes "f"); judgement = J.Oper (named (codes "f") ∷ []) [] (D.Overload []) } ∷ [];
 }
 
-pub no_alternative_to_take : TypeFaults.BreaksTerm no_alternatives [] f_term TypingSites.found TypingSites.any_role R.NoOverload (codes "f" ∷ [])
+pub no_alternative_to_take : TypeFaults.BreaksTerm no_alternatives [] f_term TypingSites.found TypingSites.any_role [] R.NoOverload (codes "f" ∷ [])
 no_alternative_to_take = TypeFaults.no_alternative (λ e. cc)
     (TypingSites.has_overload (at_head (λ f a p e. let k = form-roll (T.Var (WholeName (whole (codes "f"))) (here 3 13)) in cc)) (form-roll _) (inr refl))
     none_found (λ k B u s. nothing_suits s)

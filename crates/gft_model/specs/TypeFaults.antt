@@ -72,19 +72,6 @@ module _ (flat : Flat) where
     too_many_values : {A w p : _} → form e ≡ T.Var (WholeName w) p → IsParameter (items flat) w A → most_values < count_of A →
         BreaksSort Γ e S R.ParamTooLarge (type_text A ∷ [])
 
-  -- what is broken at a term before its parts are looked at
-  pub data BreaksEarly (e : Term) : Mode → Rule → List (List ℕ) → Type 0 where
-    lambda_found : {xs b p : _} → form e ≡ T.Fun xs b p → BreaksEarly e found R.NoType []
-    table_lambda_found : {xs b p : _} → form e ≡ T.TabFun xs b p → BreaksEarly e found R.NoType []
-    table_found : {cs p : _} → form e ≡ T.TableOf None cs p → BreaksEarly e found R.NoType []
-    no_variant_found : {p : _} → form e ≡ T.Variants [] p → BreaksEarly e found R.NoType []
-    lambda_is_no_function : {m xs b p F : _} → form e ≡ T.Fun xs b p → term_mode m ≡ given F → function_in (out-CType F) ≡ None →
-        BreaksEarly e m R.NotFunction (type_text F ∷ [])
-    lambda_is_no_table : {m xs b p F : _} → form e ≡ T.TabFun xs b p → term_mode m ≡ given F → table_in (out-CType F) ≡ None →
-        BreaksEarly e m R.NotTable (type_text F ∷ [])
-    table_is_no_table : {m cs p F : _} → form e ≡ T.TableOf None cs p → term_mode m ≡ given F → table_in (out-CType F) ≡ None →
-        BreaksEarly e m R.NotTable (type_text F ∷ [])
-
   module _ (Γ : Scope) (e : Term) (m : Mode) (r : Role) where
     -- the type that a term has in its mode
     pub data Has : CType → Type 0 where
@@ -101,51 +88,62 @@ module _ (flat : Flat) where
       over_case : {b cs p A : _} → form e ≡ T.CaseOf b cs p → FoundFor flat b Γ A → IsOver A
       over_type : {a b p A : _} → form e ≡ T.TabType a b p → IsType (items flat) a A → IsOver A
 
-    -- what is broken at a term once its parts were looked at
-    pub data BreaksTerm : Rule → List (List ℕ) → Type 0 where
+    -- what is broken at a term, before its parts are looked at and after that
+    pub data BreaksTerm : Moment → Rule → List (List ℕ) → Type 0 where
+      lambda_found : {xs b p : _} → form e ≡ T.Fun xs b p → m ≡ found → BreaksTerm (0 ∷ []) R.NoType []
+      table_lambda_found : {xs b p : _} → form e ≡ T.TabFun xs b p → m ≡ found → BreaksTerm (0 ∷ []) R.NoType []
+      table_found : {cs p : _} → form e ≡ T.TableOf None cs p → m ≡ found → BreaksTerm (0 ∷ []) R.NoType []
+      no_variant_found : {p : _} → form e ≡ T.Variants [] p → m ≡ found → BreaksTerm (0 ∷ []) R.NoType []
+      lambda_is_no_function : {xs b p F : _} → form e ≡ T.Fun xs b p → term_mode m ≡ given F → function_in (out-CType F) ≡ None →
+          BreaksTerm (0 ∷ []) R.NotFunction (type_text F ∷ [])
+      lambda_is_no_table : {xs b p F : _} → form e ≡ T.TabFun xs b p → term_mode m ≡ given F → table_in (out-CType F) ≡ None →
+          BreaksTerm (0 ∷ []) R.NotTable (type_text F ∷ [])
+      table_is_no_table : {cs p F : _} → form e ≡ T.TableOf None cs p → term_mode m ≡ given F → table_in (out-CType F) ≡ None →
+          BreaksTerm (0 ∷ []) R.NotTable (type_text F ∷ [])
       undefined_parameter : {w : Whole} {p : _} → form e ≡ T.Var (WholeName w) p → Contains (items flat) (bare_parameter w) →
-          BreaksTerm R.Unknown (w.name ∷ [])
-      no_first_case : {b p : _} → form e ≡ T.CaseOf b [] p → m ≡ found → BreaksTerm R.NoType []
-      no_first_branch : {t p : _} → form e ≡ T.TableOf (Some t) [] p → value_mode (term_mode m) ≡ found → BreaksTerm R.NoType []
-      no_first_item : {t p : _} → form e ≡ T.TableList t [] p → value_mode (term_mode m) ≡ found → BreaksTerm R.NoType []
-      no_branch_over : {A p : _} → form e ≡ T.TableOf None [] p → m ≡ over A → BreaksTerm R.NoType []
+          BreaksTerm [] R.Unknown (w.name ∷ [])
+      no_first_case : {b p : _} → form e ≡ T.CaseOf b [] p → m ≡ found → BreaksTerm [] R.NoType []
+      no_first_branch : {t p : _} → form e ≡ T.TableOf (Some t) [] p → value_mode (term_mode m) ≡ found →
+          BreaksTerm [] R.NoType []
+      no_first_item : {t p : _} → form e ≡ T.TableList t [] p → value_mode (term_mode m) ≡ found → BreaksTerm [] R.NoType []
+      no_branch_over : {A p : _} → form e ≡ T.TableOf None [] p → m ≡ over A → BreaksTerm [] R.NoType []
       found_does_not_fit : {A B : _} → term_mode m ≡ given A → passes (form e) (out-CType A) ≡ false → FoundFor flat e Γ B →
-          ((t : LinTerm) → ¬ (Checks (items flat) Γ e A t)) → BreaksTerm R.Mismatch (type_text A ∷ type_text B ∷ [])
+          ((t : LinTerm) → ¬ (Checks (items flat) Γ e A t)) → BreaksTerm [] R.Mismatch (type_text A ∷ type_text B ∷ [])
       own_type_does_not_fit : {A U t : _} → r ≡ to_fit U → m ≡ given A → Checks (items flat) Γ e A t →
-          ((u v : LinTerm) → ¬ (Fits A U u v)) → BreaksTerm R.Mismatch (type_text U ∷ type_text A ∷ [])
+          ((u v : LinTerm) → ¬ (Fits A U u v)) → BreaksTerm [] R.Mismatch (type_text U ∷ type_text A ∷ [])
       table_over_another : {t F A B V : _} → term_mode m ≡ given F → table_in (out-CType F) ≡ Some (A, V) → WritesDomain e t →
-          IsType (items flat) t B → B ≢ A → BreaksTerm R.Mismatch (type_text F ∷ type_text (table_type B V) ∷ [])
+          IsType (items flat) t B → B ≢ A → BreaksTerm [] R.Mismatch (type_text F ∷ type_text (table_type B V) ∷ [])
       projects_no_record : {a x p A : _} → form e ≡ T.Proj a x p → FoundFor flat a Γ A → record_in (out-CType A) ≡ None →
-          BreaksTerm R.NotRecord (type_text A ∷ [])
+          BreaksTerm [] R.NotRecord (type_text A ∷ [])
       projects_no_field : {a x p A gs : _} → form e ≡ T.Proj a x p → FoundFor flat a Γ A → record_in (out-CType A) ≡ Some gs →
-          field_of x gs ≡ None → BreaksTerm R.NoField (x ∷ [])
+          field_of x gs ≡ None → BreaksTerm [] R.NoField (x ∷ [])
       extends_no_record : {a b p A B C : _} → form e ≡ T.Extend a b p → FoundFor flat a Γ A → FoundFor flat b Γ B →
-          find (λ D. not (is_some (record_in (out-CType D)))) (A ∷ B ∷ []) ≡ Some C → BreaksTerm R.NotRecord (type_text C ∷ [])
+          find (λ D. not (is_some (record_in (out-CType D)))) (A ∷ B ∷ []) ≡ Some C → BreaksTerm [] R.NotRecord (type_text C ∷ [])
       record_lacks : {ls p A gs x : _} → form e ≡ T.Fields ls p → list_all is_value ls ≡ true → term_mode m ≡ given A →
           record_in (out-CType A) ≡ Some gs → first_absent (flat_map local_names ls) (keys_of gs) ≡ Some x →
-          BreaksTerm R.NoField (x ∷ [])
+          BreaksTerm [] R.NoField (x ∷ [])
       selects_from_no_table : {a b p A : _} → form e ≡ T.Select a b p → FoundFor flat a Γ A → table_in (out-CType A) ≡ None →
-          BreaksTerm R.NotTable (type_text A ∷ [])
+          BreaksTerm [] R.NotTable (type_text A ∷ [])
       applies_no_function : {f a p A : _} → form e ≡ T.App f a p → ((w : Whole) (es : List Term) → ¬ (HasOverload flat f w es)) →
-          FoundFor flat f Γ A → function_in (out-CType A) ≡ None → BreaksTerm R.NotFunction (type_text A ∷ [])
+          FoundFor flat f Γ A → function_in (out-CType A) ≡ None → BreaksTerm [] R.NotFunction (type_text A ∷ [])
       function_for_data : {F A B : _} → (r ≡ data_wanted) ⊎ (r ≡ finite_wanted) → Has F →
-          function_in (out-CType F) ≡ Some (A, B) → BreaksTerm R.FunctionHere []
+          function_in (out-CType F) ≡ Some (A, B) → BreaksTerm [] R.FunctionHere []
       argument_not_finite : {A : _} → r ≡ finite_wanted → IsType (items flat) e A → is_finite A ≡ false →
-          BreaksTerm R.NotFinite (type_text A ∷ [])
+          BreaksTerm [] R.NotFinite (type_text A ∷ [])
       over_no_finite : {A : _} → IsOver A → is_finite A ≡ false →
           (A ≡ str_type → (r ≢ selected) × ((b : Term) (cs : List (Case Term)) (p : Place) → ¬ (form e ≡ T.CaseOf b cs p))) →
-          BreaksTerm R.NotFinite (type_text A ∷ [])
+          BreaksTerm [] R.NotFinite (type_text A ∷ [])
       too_many_numbers : {f a n p q s : _} → form e ≡ T.App f a p → form f ≡ T.Sort Sort-V.Ints s → form a ≡ T.Num n q →
-          most_values < n + 1 → BreaksTerm R.ParamTooLarge (type_text (number_type n) ∷ [])
+          most_values < n + 1 → BreaksTerm [] R.ParamTooLarge (type_text (number_type n) ∷ [])
       over_too_many : {A : _} → IsOver A → is_finite A ≡ true → most_values < count_of A →
-          BreaksTerm R.ParamTooLarge (type_text A ∷ [])
+          BreaksTerm [] R.ParamTooLarge (type_text A ∷ [])
       value_left_out : {A v : _} → IsOver A → IsDomain A → left_out (form e) (values_of A) ≡ Some v →
-          BreaksTerm R.NotExhaustive (param_text v ∷ [])
+          BreaksTerm [] R.NotExhaustive (param_text v ∷ [])
       no_alternative : {w : Whole} {es As us : _} → r ≢ applied → HasOverload flat e w es → FindsAll (items flat) Γ es As us →
-          ((k : ℕ) (B : CType) (u : LinTerm) → ¬ (Suits (items flat) w As us k B u)) → BreaksTerm R.NoOverload (w.name ∷ [])
+          ((k : ℕ) (B : CType) (u : LinTerm) → ¬ (Suits (items flat) w As us k B u)) → BreaksTerm [] R.NoOverload (w.name ∷ [])
       many_alternatives : {w : Whole} {es As us i k B C t u : _} → r ≢ applied → HasOverload flat e w es →
           FindsAll (items flat) Γ es As us → Suits (items flat) w As us i B t → Suits (items flat) w As us k C u → i ≢ k →
-          BreaksTerm R.ManyOverloads (w.name ∷ [])
+          BreaksTerm [] R.ManyOverloads (w.name ∷ [])
 
   -- the type of a pattern that has one of its own
   pub data PatternHas (p : Pattern) : CType → Type 0 where
@@ -173,10 +171,8 @@ module _ (flat : Flat) where
 
   -- what is broken at terms and patterns that stand in these sites
   pub data BreaksSites (sites : List Site) : Moment → Refusal → Type 0 where
-    at_term_early : {at Γ e m r rule names : _} → StandsIn flat sites at Γ (a_term e) m r → BreaksEarly e m rule names →
-        BreaksSites sites (at ++ 0 ∷ []) (refusal rule (place_of e) names)
-    at_term : {at Γ e m r rule names : _} → StandsIn flat sites at Γ (a_term e) m r → BreaksTerm Γ e m r rule names →
-        BreaksSites sites at (refusal rule (place_of e) names)
+    at_term : {at Γ e m r early rule names : _} → StandsIn flat sites at Γ (a_term e) m r →
+        BreaksTerm Γ e m r early rule names → BreaksSites sites (at ++ early) (refusal rule (place_of e) names)
     at_type : {at Γ e S r rule names : _} → StandsIn flat sites at Γ (a_term e) (as_type S) r → BreaksSort Γ e S rule names →
         BreaksSites sites at (refusal rule (place_of e) names)
     at_pattern : {at Γ p A r early rule names : _} → StandsIn flat sites at Γ (a_pattern p) (given A) r →
