@@ -1,5 +1,5 @@
 -- What a language compiles to: its productions, defs and refs over nonterminals by their numbers.
-use Rattle.std.specs.Prelude.{◌≡◌, ◌↔◌, ℕ, suc, ◌+◌, List, [], ◌∷◌, ◌++◌, map, flat_map, length, zip, position, Contains, Option, None, Bool, bytes_eq, if◌then◌else◌, option_map}
+use Rattle.std.specs.Prelude.{◌≡◌, ◌↔◌, ℕ, suc, ◌+◌, List, [], ◌∷◌, ◌++◌, map, flat_map, length, zip, position, Contains, Option, None, bytes_eq, if◌then◌else◌, option_map}
 use Rattle.std.specs.List.{filter_map}
 use Rattle.std.specs.Option.{option_map_or, option_to_list, unwrap_or}
 use Rattle.gft_pmcfg.specs.declared.concrete.Concrete.{Concrete}

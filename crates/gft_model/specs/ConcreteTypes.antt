@@ -1,5 +1,5 @@
 -- Concrete types: their values in order, their cells and cases, and which is a subtype of which.
-use Rattle.std.specs.Prelude.{◌≡◌, ℕ, zero, suc, ◌+◌, ◌*◌, List, [], ◌∷◌, ◌++◌, map, Bool, true, false, not, ◌≤◌, Option, Some, None, bytes_eq}
+use Rattle.std.specs.Prelude.{◌≡◌, ℕ, ◌+◌, ◌*◌, List, [], ◌∷◌, map, Bool, true, false, not, ◌≤◌, Option, Some, None, bytes_eq}
 use Rattle.std.specs.List.{filter, flat_map, list_all, range_with_len, zip}
 use Rattle.std.specs.Map.{keys_of, lookup}
 use Rattle.std.specs.Option.{is_some, option_to_list}

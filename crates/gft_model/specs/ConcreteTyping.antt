@@ -1,7 +1,7 @@
 -- Concrete typing: which types are found for terms and which terms fit a given type, each with the
 -- typed term that says what the term means.
-use Rattle.std.specs.Prelude.{◌≡◌, ℕ, ◌≤◌, List, [], ◌∷◌, ◌++◌, map, reverse, length, ◌⊎◌, Some, None, IsTrue, Bool, true, false, ◌&&◌, All}
-use Rattle.std.specs.Option.{is_some, option_to_list}
+use Rattle.std.specs.Prelude.{◌≡◌, ℕ, ◌≤◌, List, [], ◌∷◌, ◌++◌, map, reverse, length, ◌⊎◌, Some, None, IsTrue, Bool, true, false, ◌&&◌}
+use Rattle.std.specs.Option.{is_some}
 use Rattle.std.specs.List.{list_all, list_any}
 use Rattle.gft_core.specs.Words.{words_of}
 use Rattle.gft_core.specs.declared.place.Place.{Place}
