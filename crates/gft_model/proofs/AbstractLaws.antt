@@ -19,11 +19,12 @@ use Rattle.gft_syntax.specs.declared.reference.Whole.{Whole}
 use Rattle.gft_syntax.specs.declared.term.Term.{Term, out-Term}
 use Rattle.gft_syntax.specs.declared.term.Term.TheOpen as T
 use Rattle.gft_syntax.specs.Terms.{Layer}
+use Rattle.gft_syntax.specs.Parts.{list_name}
 use Rattle.gft_model.specs.AbstractFaults.{Indexed, without_indices, variables_of, is_head_part, Declares, head_name, IsIndex, variable, number, text, application, AreIndices, no_index, one_index, ReadsType, indexed, built_in, ReadsContext, no_context, more_context, HasContext, its_context, of_a_list, ReadsFunction, takes, gives, HasSignature, its_type, of_list_function}
 use Rattle.gft_model.specs.AbstractParts.{IsNumbered, IsSorted, IsCategory, IsFunction, IsAbstractPart}
 use Rattle.gft_model.specs.ConcreteTypes.{field_of}
 use Rattle.gft_model.specs.ConcreteTyping.{Spine, applied_to, at_head}
-use Rattle.gft_model.specs.JudgementTyping.{name_of, list_name, signature_given}
+use Rattle.gft_model.specs.JudgementTyping.{name_of, signature_given}
 use Rattle.gft_model.specs.Refusals.{Before, name_moment}
 use Rattle.gft_model.specs.States.{category_number}
 use Rattle.gft_model.specs.TypeForms.{form, plain_form}

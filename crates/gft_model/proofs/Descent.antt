@@ -26,9 +26,8 @@ use Rattle.gft_syntax.specs.declared.token.Symbol.{Symbol as Sign}
 use Rattle.gft_syntax.specs.declared.token.Symbol.TheVariants as S
 use Rattle.gft_syntax.specs.declared.token.TokenForm.{TokenForm}
 use Rattle.gft_syntax.specs.declared.token.TokenForm.TheVariants.{Identifier, Reserved, Number, Quoted, Symbol}
-use Rattle.gft_syntax.specs.Parts.{is_value}
+use Rattle.gft_syntax.specs.Parts.{list_name, is_value}
 use Rattle.gft_model.proofs.GrammarRules.{Tokens, placed, distinct, are_fields, Level, exp, exp1, exp2, exp3, exp4, exp5, exp6, patt, patt1, patt2, patt3, patt4, Part, term, pattern, local, branch, field, alternative, context, constructor, name, bind, placed_name, category_name, inherited, opened, substitution, listed, semicolons, many, Meaning, TermForm}
-use Rattle.gft_model.specs.JudgementTyping.{list_name}
 use Rattle.gft_model.proofs.ReadingTokens.{after, past, seen, named, from, then, given, quiet, first}
 use Rattle.gft_model.proofs.FirstTokens.{begins_at, begins_atom, begins_pattern, binding_at, branches_at, is_closer, is_key, is_sign, in_key, where_key, table_key, case_key, of_key, variants_key}
 

@@ -24,8 +24,7 @@ use Rattle.gft_syntax.specs.declared.token.Reserved.TheVariants as W
 use Rattle.gft_syntax.specs.declared.token.SourceToken.{SourceToken}
 use Rattle.gft_syntax.specs.declared.token.Symbol.{Symbol as Sign}
 use Rattle.gft_syntax.specs.declared.token.Symbol.TheVariants as S
-use Rattle.gft_syntax.specs.Parts.{is_value}
-use Rattle.gft_model.specs.JudgementTyping.{list_name}
+use Rattle.gft_syntax.specs.Parts.{list_name, is_value}
 use Rattle.gft_model.specs.Grammar as F
 use Rattle.gft_model.specs.Grammar.{Form, Piece, symbol, word, identifier, number as numeral, text, part, part_where, Maker, Layer, layer}
 pub use Rattle.gft_model.specs.Grammar.{Tokens, Is, IsReserved, IsNamed, IsNumber, IsQuoted, first_place, FirstAt, placed,

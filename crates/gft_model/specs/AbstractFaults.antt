@@ -18,14 +18,14 @@ use Rattle.gft_syntax.specs.declared.reference.Reference.TheVariants.{Written, W
 use Rattle.gft_syntax.specs.declared.reference.Whole.{Whole}
 use Rattle.gft_syntax.specs.declared.term.Term.{Term, out-Term}
 use Rattle.gft_syntax.specs.declared.term.Term.TheOpen as T
-use Rattle.gft_syntax.specs.Parts.{parts}
+use Rattle.gft_syntax.specs.Parts.{list_name, parts}
 use Rattle.gft_syntax.specs.Terms.{Layer, place_of}
 use Rattle.gft_tree.specs.Trees.{as_arguments}
 use Rattle.gft_model.specs.AbstractInfo.{index_step}
 use Rattle.gft_model.specs.ConcreteTypes.{field_of}
 use Rattle.gft_model.specs.ConcreteTyping.{Spine, for_each}
 use Rattle.gft_model.specs.HeaderFaults.{IsBuiltIn}
-use Rattle.gft_model.specs.JudgementTyping.{list_name, name_of, signature_given}
+use Rattle.gft_model.specs.JudgementTyping.{name_of, signature_given}
 use Rattle.gft_model.specs.Refusals.{Moment, refusal, name_at, at_name}
 use Rattle.gft_model.specs.Trees.{Printed, filled}
 use Rattle.gft_model.specs.Typing.{value_of}

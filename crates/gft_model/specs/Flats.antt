@@ -16,7 +16,7 @@ use Rattle.gft_syntax.specs.declared.judgement.Setting.TheVariants as V
 use Rattle.gft_syntax.specs.declared.module.Module.{Module}
 use Rattle.gft_syntax.specs.declared.reference.PlacedName.{PlacedName}
 use Rattle.gft_syntax.specs.declared.reference.Whole.{Whole}
-use Rattle.gft_model.specs.JudgementTyping.{list_name}
+use Rattle.gft_syntax.specs.Parts.{list_name}
 use Rattle.gft_model.specs.Modules.{is_abstract, is_concrete, is_incomplete, Is, Has, turn, Writes, header_name, Means, Declared, module_of, module_named, header_mentions, sort_of, mentions, judgements_of, main_name}
 use Rattle.gft_model.specs.Refusals.{Moment, Before}
 use Rattle.gft_model.specs.Resolution.{Names, resolved_judgement}

@@ -31,8 +31,7 @@ use Rattle.gft_syntax.specs.declared.token.SourceToken.{SourceToken}
 use Rattle.gft_syntax.specs.declared.token.Symbol.{Symbol as Sign}
 use Rattle.gft_syntax.specs.declared.token.Symbol.TheVariants as S
 use Rattle.gft_syntax.specs.declared.token.TokenForm.TheVariants.{Identifier, Reserved, Number, Quoted, Symbol}
-use Rattle.gft_syntax.specs.Parts.{local_names, is_value}
-use Rattle.gft_model.specs.JudgementTyping.{list_name}
+use Rattle.gft_syntax.specs.Parts.{list_name, local_names, is_value}
 
 -- tokens of a file
 abbrev pub Tokens : Type 0

@@ -9,10 +9,10 @@ use Rattle.gft_syntax.specs.declared.module.Module.{Module}
 use Rattle.gft_syntax.specs.declared.reference.PlacedName.{PlacedName}
 use Rattle.gft_syntax.specs.declared.reference.Whole.{Whole}
 use Rattle.gft_model.specs.Flats.{IsOf, HasEntry}
-use Rattle.gft_model.specs.JudgementTyping.{list_name, Signature, signature_in}
+use Rattle.gft_model.specs.JudgementTyping.{Signature, signature_in}
 use Rattle.gft_model.specs.Modules.{is_incomplete, is_interface, sort_of, header_name, declared_names, main_name}
 use Rattle.gft_model.specs.Refusals.{Moment}
-use Rattle.gft_syntax.specs.Parts.{judgement_names}
+use Rattle.gft_syntax.specs.Parts.{list_name, judgement_names}
 
 -- the whole names by which terms name a judgement; they name no linearization
 abbrev pub answered : FlatJudgement → List Whole

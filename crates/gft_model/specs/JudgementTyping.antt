@@ -18,6 +18,7 @@ use Rattle.gft_syntax.specs.declared.reference.Whole.{Whole}
 use Rattle.gft_syntax.specs.declared.term.Term.{Term}
 use Rattle.gft_syntax.specs.declared.term.Term.TheOpen as Term-F
 use Rattle.gft_syntax.specs.declared.term.Term.TheFolds.{fold-Term}
+use Rattle.gft_syntax.specs.Parts.{list_name}
 use Rattle.gft_model.specs.ConcreteTyping.{At, IsType, IsParameter, IsData, Finds, Checks, for_each}
 use Rattle.gft_model.specs.Items.{Item, items_of, parameter_type, bare_parameter, oper, alternative, lincat, linear}
 use Rattle.gft_model.specs.Resting.{NoCycle}
@@ -50,10 +51,6 @@ signature_step d = headed []
 -- the signature that a type is
 abbrev pub signature_of : Term → Signature
 signature_of = fold-Term Signature signature_step
-
--- the category of lists of C
-abbrev pub list_name : List ℕ → List ℕ
-list_name C = codes "List" ++ C
 
 -- the signature that a judgement gives its function w
 abbrev pub signature_given : List ℕ → Judgement → Signature

@@ -17,7 +17,7 @@ use Rattle.gft_syntax.specs.declared.module.Rest.{Rest}
 use Rattle.gft_syntax.specs.declared.module.Rest.TheVariants.{Own, Inherits, With}
 use Rattle.gft_syntax.specs.declared.module.Substitution.{Substitution}
 use Rattle.gft_syntax.specs.declared.reference.PlacedName.{PlacedName}
-use Rattle.gft_model.specs.JudgementTyping.{list_name}
+use Rattle.gft_syntax.specs.Parts.{list_name}
 use Rattle.gft_model.specs.Refusals.{Moment}
 
 -- the name of a module

@@ -15,10 +15,9 @@ use Rattle.gft_syntax.specs.declared.term.Sort.{Sort}
 use Rattle.gft_syntax.specs.declared.term.Sort.TheVariants as Sort-V
 use Rattle.gft_syntax.specs.declared.term.Term.{Term, out-Term}
 use Rattle.gft_syntax.specs.declared.term.Term.TheOpen as T
-use Rattle.gft_syntax.specs.Parts.{Part as TermPart, parts, pattern_parts, patterns_in, judgement_parts}
+use Rattle.gft_syntax.specs.Parts.{list_name, Part as TermPart, parts, pattern_parts, patterns_in, judgement_parts}
 use Rattle.gft_model.specs.Flats.{IsConstructor, IsOf}
 use Rattle.gft_model.specs.HeaderFaults.{IsBuiltIn, Clash}
-use Rattle.gft_model.specs.JudgementTyping.{list_name}
 use Rattle.gft_model.specs.Modules.{is_abstract, placed_names, sort_of, opened_names, Writes, Offers, Sees, Declared, header_name, header_mentions, judgements_of, opened_of, names_of}
 use Rattle.gft_model.specs.Refusals.{name_at}
 use Rattle.gft_model.specs.Resolution.{Locals, is_local}

@@ -18,8 +18,7 @@ use Rattle.gft_syntax.specs.declared.term.Term.{Term, roll-Term, out-Term}
 use Rattle.gft_syntax.specs.declared.term.Term.TheOpen as T
 use Rattle.gft_syntax.specs.declared.term.Term.TheFolds.{para-Term, map-Term}
 use Rattle.gft_syntax.specs.Layers.{on_local}
-use Rattle.gft_syntax.specs.Parts.{bound_names, local_names, pattern_parts}
-use Rattle.gft_model.specs.JudgementTyping.{list_name}
+use Rattle.gft_syntax.specs.Parts.{list_name, bound_names, local_names, pattern_parts}
 
 -- what x, or Q.x, means, and which bare names are constructors
 pub record Names : Type 0 where

@@ -1,5 +1,5 @@
 -- The parts of terms, patterns and judgements in the order of the text, with what binds around each, and the names in them.
-use Rattle.std.specs.Prelude.{ℕ, suc, Bool, true, false, List, [], ◌∷◌, ◌++◌, map, flat_map, max, Option, Some, None, option_to_list}
+use Rattle.std.specs.Prelude.{ℕ, suc, Bool, true, false, List, [], ◌∷◌, ◌++◌, map, flat_map, codes, max, Option, Some, None, option_to_list}
 use Rattle.gft_core.specs.declared.place.Place.{Place}
 use Rattle.gft_syntax.specs.declared.bind.Bind.{Bind}
 use Rattle.gft_syntax.specs.declared.bind.Bind.TheVariants.{Variable, Nothing}
@@ -31,6 +31,10 @@ abbrev pub bound_names : List Bind → List (List ℕ)
 bound_names [] = []
 bound_names (Variable x place ∷ xs) = x ∷ bound_names xs
 bound_names (Nothing place ∷ xs) = bound_names xs
+
+-- the category of lists of C, which is [C]
+abbrev pub list_name : List ℕ → List ℕ
+list_name C = codes "List" ++ C
 
 -- the names that a local binds, or the labels of a field
 abbrev pub local_names : {A : Type 0} → Local A → List (List ℕ)
