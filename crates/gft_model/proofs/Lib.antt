@@ -85,6 +85,7 @@ pub mod OutputLaws
 pub mod LineReadings
 pub mod LoadingLaws
 pub mod TokenLaws
+pub mod Unbroken
 pub mod RefusalExamples
 pub mod CompileRefusalExamples
 pub mod HeaderRefusalExamples

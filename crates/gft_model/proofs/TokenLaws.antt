@@ -24,7 +24,7 @@ true_of_and false b e = let wrong : false ≡ true = e in cc
 
 -- THE CHARACTERS OF A TEXT
 
-text_is : (bytes : List ℕ) → IsUtf8 bytes → text_of bytes ≡ chars bytes
+pub text_is : (bytes : List ℕ) → IsUtf8 bytes → text_of bytes ≡ chars bytes
 text_is bytes u =
     ap (λ n. chars (take n bytes) ++ map loose (drop n bytes)) (utf8_valid_len-IsUtf8 bytes u)
     ∙ ap (λ xs. chars (take (length bytes) bytes) ++ map loose xs) (drop-length bytes)
@@ -40,7 +40,7 @@ in_text (x ∷ xs) c ys h = in_text xs c ys (true_of_and (scalar x) (scalars (xs
 -- LEXEMES ARE NOT EMPTY
 
 -- what begins has a character at least
-abbrev Long : Lexeme → Type 0
+abbrev pub Long : Lexeme → Type 0
 Long (blank n) = 0 < n
 Long (token t n) = 0 < n
 Long nothing = ⊤
@@ -77,7 +77,7 @@ long_block : (o : Option ℕ) → Long (block_lexeme o)
 long_block None = tt
 long_block (Some n) = omega arith
 
-long_at : (cs : List ℕ) → Long (lexeme_at cs)
+pub long_at : (cs : List ℕ) → Long (lexeme_at cs)
 long_at [] = tt
 long_at (c ∷ []) =
     either (is_whitespace c) (blank 1) _ (omega arith)
@@ -91,7 +91,7 @@ long_at (c ∷ d ∷ cs) =
 -- WHERE A LEXEME MAY BEGIN
 
 -- the tokens from a place on, by what begins there
-abbrev reading : Lexeme → Place → ℕ → List ℕ → Option (List SourceToken)
+abbrev pub reading : Lexeme → Place → ℕ → List ℕ → Option (List SourceToken)
 reading nothing p c cs = None
 reading (blank n) p c cs = tokens_from (n - 1) (after c p) cs
 reading (token t n) p c cs = option_map (λ ts. record { form = t; place = p } ∷ ts) (tokens_from (n - 1) (after c p) cs)
@@ -108,7 +108,7 @@ as_read l p c cs =
 read_as : (p : Place) (c : ℕ) (cs : List ℕ) (l : Lexeme) → lexeme_at (c ∷ cs) ≡ l → tokens_from 0 p (c ∷ cs) ≡ as_read l p c cs
 read_as p c cs l e = ap (λ x. as_read x p c cs) e
 
-read_here : (p : Place) (c : ℕ) (cs : List ℕ) (l : Lexeme) → lexeme_at (c ∷ cs) ≡ l
+pub read_here : (p : Place) (c : ℕ) (cs : List ℕ) (l : Lexeme) → lexeme_at (c ∷ cs) ≡ l
     → tokens_from 0 p (c ∷ cs) ≡ reading l p c cs
 read_here p c cs nothing e = read_as p c cs _ e
 read_here p c cs (blank n) e = read_as p c cs _ e
@@ -123,7 +123,7 @@ tokens_moved (suc n) p (c ∷ cs) = tokens_moved n (after c p) cs
 abbrev Good : Place → List ℕ → Type 0
 Good p cs = (us : List SourceToken) × (tokens_from 0 p cs ≡ Some us) × (list_all in_range us ≡ true)
 
-one_less : (m : ℕ) → suc m - 1 ≡ m
+pub one_less : (m : ℕ) → suc m - 1 ≡ m
 one_less m = omega arith
 
 mapped : (t : SourceToken) (o : Option (List SourceToken)) (us : List SourceToken) → option_map (λ ts. t ∷ ts) o ≡ Some us
@@ -182,7 +182,7 @@ none_now : (o : Option TokenForm) (n : ℕ) (best : Option (TokenForm × ℕ))
 none_now None n best e = e
 none_now (Some t) n best e = cc
 
-none_from : (held cs : List ℕ) (best : Option (TokenForm × ℕ)) → longest_from held cs best ≡ None → best ≡ None
+pub none_from : (held cs : List ℕ) (best : Option (TokenForm × ℕ)) → longest_from held cs best ≡ None → best ≡ None
 none_from held [] best e = e
 none_from held (c ∷ cs) best e =
     none_now (form_of (held ++ c ∷ [])) (length (held ++ c ∷ [])) best
@@ -233,7 +233,7 @@ quoted_longest held (c ∷ cs) none =
     ∙ quoted_longest (held ++ c ∷ []) cs (λ xs ys h. none xs ys (sym same ∙ h))
 
 -- a text that is spelled is closed
-abbrev quoted_as : Bool → Bool → Bool → ℕ → List ℕ → Option (List ℕ)
+abbrev pub quoted_as : Bool → Bool → Bool → ℕ → List ℕ → Option (List ℕ)
 quoted_as a b d c cs =
     elim a [
       | true ↦ escape_text cs
@@ -253,10 +253,10 @@ of_escape : (o : Option ℕ) (xs t : List ℕ)
 of_escape None xs t e = let wrong : None ≡ Some t = e in cc
 of_escape (Some d) xs t e = let s = of_map d (quoted_text xs) t e in (d, refl, s.0, s.1)
 
-is_that : (c k : ℕ) → (c == k) ≡ true → c ≡ k
+pub is_that : (c k : ℕ) → (c == k) ≡ true → c ≡ k
 is_that c k h = (unsigned_Decides c k).0 h
 
-is_other : (c k : ℕ) → (c == k) ≡ false → c ≢ k
+pub is_other : (c k : ℕ) → (c == k) ≡ false → c ≢ k
 is_other c k h e = let wrong : false ≡ true = sym h ∙ (unsigned_Decides c k).1 e in cc
 
 no_newline : (c d : ℕ) → escaped c ≡ Some d → c ≢ 10

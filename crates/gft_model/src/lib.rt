@@ -18,7 +18,7 @@ pub use laws::{
     run_gives_string, run_gives_value, solution_is_unique, string_is_of_run, type_is_determined,
     typed_has_skeleton_type, value_is_of_run, yield_is_determined,
 };
-pub use refusals::first_refusal_is_unique;
+pub use refusals::{first_refusal_is_unique, tokens_are_unbroken};
 pub use sources::{
     alternatives_in_order, cases_are_in_order, found_type_is_determined, judgement_is_determined,
     meaning_is_determined, no_variants, pattern_fits_once, resolved_grammar_is_determined,
