@@ -15,6 +15,3 @@ pub use memory::{MemSink, MemSource, MemStore};
 pub use sink::{Sink, write_all};
 pub use source::{Failed, Source};
 pub use store::{LoadErr, SaveErr, Store};
-
-#[cfg(test)]
-mod tests;

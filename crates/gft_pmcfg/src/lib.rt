@@ -7,8 +7,6 @@ mod forest;
 mod grammar;
 mod run;
 mod signature;
-#[cfg(test)]
-mod tests;
 
 pub use concrete::{Concrete, Def, Info, Prod, Ref};
 pub use forest::{Alt, Forest, Node};

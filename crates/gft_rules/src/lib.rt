@@ -4,8 +4,6 @@
 mod refusal;
 mod rule;
 mod table;
-#[cfg(test)]
-mod tests;
 
 pub use refusal::{Refusal, Stop};
 pub use rule::{Rule, rules};

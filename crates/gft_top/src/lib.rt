@@ -13,8 +13,6 @@ mod running;
 mod signature;
 mod speech;
 mod syntax;
-#[cfg(test)]
-mod tests;
 mod token;
 
 pub use read::{read_abstract, read_concrete, spelled_once};

@@ -11,8 +11,6 @@ mod front;
 mod linearization;
 mod many;
 mod reserved;
-#[cfg(test)]
-mod tests;
 
 use crate::syntax::{AbstractModule, ConcreteModule};
 use crate::token::{Symbol, Token, tokens_of};

@@ -14,8 +14,6 @@ mod reading;
 mod round;
 mod seen;
 mod sort;
-#[cfg(test)]
-mod tests;
 mod writing;
 
 pub use compare::cmp_text;

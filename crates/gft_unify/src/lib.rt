@@ -8,8 +8,6 @@ mod occurs;
 mod resolve;
 mod store;
 mod subst;
-#[cfg(test)]
-mod tests;
 mod unifier;
 mod work;
 

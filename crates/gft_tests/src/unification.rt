@@ -2,8 +2,8 @@
 //!
 //! A tree is written head first: `?1` is a hole, `7` an integer, `"w` a string, `a` a constant, and
 //! `f/2` a function with the two trees after it as its arguments.
-use crate::{Subst, UnifyErr, unify};
 use gft_core::{Name, NoMemory, Token, Tree};
+use gft_unify::{Subst, UnifyErr, unify};
 use sqlite_items::Items;
 use std::alloc::Global;
 use std::fmt::Write;

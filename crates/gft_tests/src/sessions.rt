@@ -1,7 +1,7 @@
 //! Whole sessions in memory, with each call of each device failing in turn.
-use crate::{Status, run};
 use gft_core::Text;
 use gft_io::{MemSink, MemSource, MemStore};
+use gft_top::{Status, run};
 use std::alloc::Global;
 use std::test::Fail;
 

@@ -1,8 +1,8 @@
 //! Texts with the tree or the fault that they are to give, written by hand.
 
-use crate::TreeErr::{self, BadLiteral, Syntax, TooDeep};
-use crate::{cmp_text, number_holes, print, read_tree};
 use gft_core::Tree;
+use gft_tree::TreeErr::{self, BadLiteral, Syntax, TooDeep};
+use gft_tree::{cmp_text, number_holes, print, read_tree};
 use std::alloc::Global;
 use std::cmp::Ordering;
 use std::process::Abort;

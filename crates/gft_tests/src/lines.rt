@@ -1,11 +1,11 @@
 //! Lines, writes and files with each call failing in turn, and at their limits.
 ghost use Rattle.std.specs.Prelude.{None};
 
-use crate::{
+use gft_core::Text;
+use gft_io::{
     Failed, FileStore, LineErr, Lines, LoadErr, MemSink, MemSource, MemStore, ReadSource, Sink,
     Source, Store, WriteSink, write_all,
 };
-use gft_core::Text;
 use std::alloc::{AllocError, Global};
 use std::io::Cursor;
 use std::test::Fail;

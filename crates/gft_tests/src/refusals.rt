@@ -2,8 +2,8 @@
 ghost use Rattle.std.specs.Prelude.{◌<◌};
 ghost use Rattle.std.specs.Option.{ForSome};
 
-use crate::{Refusal, Rule, Table, rules};
 use gft_core::{Place, Text};
+use gft_rules::{Refusal, Rule, Table, rules};
 use sqlite_items::Items;
 use std::alloc::Global;
 use std::test::Fail;

@@ -1,7 +1,6 @@
 //! The two files of the first sentence, and faults of each kind.
-use crate::read::{read_abstract, read_concrete};
-use crate::syntax::{AbstractModule, ConcreteModule, Item};
 use gft_core::{Name, NoMemory};
+use gft_top::{AbstractModule, ConcreteModule, Item, read_abstract, read_concrete};
 use std::alloc::Global;
 use std::test::Fail;
 

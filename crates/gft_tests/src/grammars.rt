@@ -1,8 +1,8 @@
 //! A grammar is copied where memory is ample.
 ghost use Rattle.std.specs.Prelude.{◌≡◌, [], IfOk, IfSome};
 
-use crate::{Abstract, Cat, Grammar};
 use gft_core::{Name, NoMemory};
+use gft_pmcfg::{Abstract, Cat, Grammar};
 use sqlite_items::Items;
 use std::alloc::Global;
 use std::test::Fail;
