@@ -186,7 +186,8 @@ pub none_from : (held cs : List ℕ) (best : Option (TokenForm × ℕ)) → long
 none_from held [] best e = e
 none_from held (c ∷ cs) best e =
     none_now (form_of (held ++ c ∷ [])) (length (held ++ c ∷ [])) best
-    (none_from (held ++ c ∷ []) cs (elim (form_of (held ++ c ∷ [])) [ Some t ↦ Some (t, length (held ++ c ∷ [])) | None ↦ best ]) e)
+    (none_from (held ++ c ∷ []) cs
+    (elim (form_of (held ++ c ∷ [])) [ Some t ↦ Some (t, length (held ++ c ∷ [])) | None ↦ best ]) e)
 
 form_now : (o : Option TokenForm) (n : ℕ) → ◌≡◌ {A = Option (TokenForm × ℕ)} (elim o [ Some t ↦ Some (t, n) | None ↦ None ]) None
     → o ≡ None
@@ -360,7 +361,8 @@ tokens_apart t (open_string {p} {cs} b n) =
     (λ s f. n (subst (λ x. IsClosed (after 34 p) x) (sym h) (closed_if xs ys s f (after 34 p))))) in
     nowhere p 34 cs (good_of t b) (quoted_lexeme cs none)
 tokens_apart t (bad_escape {p} {q} {c} {cs} {ds} b closed i n h) =
-    let none = quoted_longest [] cs (λ xs ys f. none_or (quoted_text xs) (λ s g. escapes_good xs ys s g (after 34 p) q cs _ i f c ds refl n)) in
+    let none = quoted_longest [] cs (λ xs ys f. none_or (quoted_text xs)
+    (λ s g. escapes_good xs ys s g (after 34 p) q cs _ i f c ds refl n)) in
     nowhere p 34 cs (good_of t b) (quoted_lexeme cs none)
 tokens_apart t (open_comment {p} {cs} b e) = nowhere p 123 (45 ∷ cs) (good_of t b) (ap block_lexeme e)
 tokens_apart t (number_too_large {p} {n} {k} {cs} {s} b e h) = large p cs (good_of t b) e h
