@@ -99,3 +99,12 @@ pub mod CompiledLaws
 pub mod SourcesDetermined
 pub mod NothingWrong
 pub mod ImportExamples
+pub mod AcceptedNamesExamples
+pub mod AcceptedHeaderExamples
+pub mod AcceptedEntriesExamples
+pub mod AcceptedTypesExamples
+pub mod AcceptedSlicesExamples
+pub mod AcceptedAbstractExamples
+pub mod AcceptedGrammarExamples
+pub mod AcceptedImportExamples
+pub mod AcceptedConcreteExamples
