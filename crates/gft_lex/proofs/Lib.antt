@@ -1,0 +1,24 @@
+-- The lemmas of the lexer.
+pub mod Characters
+pub mod Lengths
+pub mod Spelled
+pub mod Wholes
+pub mod Seen
+pub mod Longest
+pub mod Forms
+pub mod Tokens
+pub mod Closings
+pub mod Places
+pub mod Readings
+pub mod Escapes
+pub mod Firsts
+pub mod Sound
+pub mod Scalars
+pub mod Broken
+pub mod Insides
+pub mod Outcomes
+pub mod Quotes
+pub mod Stepping
+pub mod Walks
+pub mod Files
+pub mod Enclosed

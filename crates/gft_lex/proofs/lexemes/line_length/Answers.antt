@@ -1,0 +1,11 @@
+use Rattle.std.proofs.Common.{◌∙◌, ◌==◌, rules, tests}
+use Rattle.std.proofs.lemmas.Iterator.{YieldsList-from_slice}
+use Rattle.std.proofs.lemmas.Iterator.Search.{position_from_yields_List}
+use Rattle.gft_lex.proofs.Lengths.{line_from}
+use Rattle.gft_lex.proofs.lexemes.line_length.Goals as goal
+
+pub returns-clause-value : goal.returns-clause-value
+returns-clause-value c =
+    c.unwrap_or.ensures ∙ line_from c.args.letters.now c.position.result
+    (position_from_yields_List (λ c. c == 10) _ _ c.position.result c.position.ensures.ran
+    (YieldsList-from_slice _ c.iter.ensures.rest) (λ x b q k. search (rules, tests)))
