@@ -42,6 +42,7 @@ abbrev pub short_symbol_in : Option Sign → Sight
 short_symbol_in None = Nothing
 short_symbol_in (Some s) = Symbol s 1
 
+-- by its spelling
 abbrev pub short_symbol_of : ℕ → Sight
 short_symbol_of c = short_symbol_in (symbol_in (c ∷ []))
 

@@ -52,6 +52,7 @@ abbrev pub whole_at : Place → List ℕ → Option ℕ → Result (Unit {0}) Re
 whole_at p cs None = Ok tt
 whole_at p cs (Some k) = Err (refusal R.NotUtf8 (place_past p (take k cs)) [])
 
+-- the characters, where each is one
 abbrev pub whole : Place → List ℕ → Result (Unit {0}) Refusal
 whole p cs = whole_at p cs (position (λ c. not (is_character c)) cs)
 
@@ -59,19 +60,24 @@ whole p cs = whole_at p cs (position (λ c. not (is_character c)) cs)
 abbrev pub spelled : Place → List ℕ → Result (List ℕ) Refusal
 spelled p cs = on_given (whole p cs) (λ _. Ok (encode_utf8_all cs))
 
+-- what was met, of so many characters
 abbrev pub met : Option TokenForm → ℕ → Met
 met form n = record { form = form; length = n }
 
+-- white space or a comment
 abbrev pub blank_step : Place → List ℕ → Result Met Refusal
 blank_step p cs = on_given (whole p cs) (λ _. Ok (met None (length cs)))
 
+-- a number that has a value in range or not
 abbrev pub number_at : Place → List ℕ → Option ℕ → List ℕ → Result Met Refusal
 number_at p cs None s = Err (refusal R.NumberTooLarge p [])
 number_at p cs (Some n) s = Ok (met (Some (T.Number n s)) (length cs))
 
+-- a number
 abbrev pub number_step : Place → List ℕ → Result Met Refusal
 number_step p cs = on_given (spelled p cs) (number_at p cs (value_from 0 cs))
 
+-- a reserved word or an identifier
 abbrev pub word_step : Place → List ℕ → Result Met Refusal
 word_step p cs = on_given (spelled p cs) (λ _. Ok (met (Some (word_form cs)) (length cs)))
 
@@ -82,18 +88,22 @@ read_step p cs (Broken i) = Err (refusal R.NotUtf8 (place_past p (take (i + 1) c
 read_step p cs (BadEscape i c) = Err (refusal R.BadEscape (place_past p (take i cs)) (encode_utf8_all (c ∷ []) ∷ []))
 read_step p cs (Closed t n) = on_given (spelled p (take (n + 1) cs)) (λ s. Ok (met (Some (T.Quoted t s)) (n + 1)))
 
+-- a text that is closed or not
 abbrev pub text_at : Place → List ℕ → Option ℕ → Result Met Refusal
 text_at p cs None = Err (refusal R.OpenString p [])
 text_at p cs (Some n) = read_step p cs (reading false 0 [] (drop 1 cs))
 
+-- a text
 abbrev pub text_step : Place → List ℕ → Result Met Refusal
 text_step p cs = text_at p cs (closing_on 0 false (drop 1 cs))
 
 -- what begins no token
 abbrev pub unknown_step : Place → ℕ → Result Met Refusal
-unknown_step p c = if is_character c then Err (refusal R.BadCharacter p (encode_utf8_all (c ∷ []) ∷ [])) else Err
-    (refusal R.NotUtf8 p [])
+unknown_step p c =
+    if is_character c then Err (refusal R.BadCharacter p (encode_utf8_all (c ∷ []) ∷ []))
+    else Err (refusal R.NotUtf8 p [])
 
+-- the first of them begins no token
 abbrev pub unknown_first : Place → List ℕ → Result Met Refusal
 unknown_first p [] = Err (refusal R.NotUtf8 p [])
 unknown_first p (c ∷ cs) = unknown_step p c
@@ -108,6 +118,7 @@ sight_step p cs (Symbol s n) = Ok (met (Some (T.Symbol s)) n)
 sight_step p cs (Word n) = word_step p (take n cs)
 sight_step p cs Nothing = unknown_first p cs
 
+-- one step over the characters
 abbrev pub step_of : Place → List ℕ → Result Met Refusal
 step_of p cs = sight_step p cs (sight_of cs)
 
