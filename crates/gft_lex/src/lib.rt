@@ -8,8 +8,6 @@ mod refusals;
 mod sight;
 mod spellings;
 mod step;
-#[cfg(test)]
-mod tests;
 mod walking;
 
 pub use walking::lex;

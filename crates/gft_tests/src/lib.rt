@@ -12,6 +12,8 @@ mod refusals;
 #[cfg(test)]
 mod sessions;
 #[cfg(test)]
+mod tokens;
+#[cfg(test)]
 mod trees;
 #[cfg(test)]
 mod unification;

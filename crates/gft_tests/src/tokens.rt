@@ -1,6 +1,6 @@
 //! Files with their tokens, and files with their first fault, written by hand from the documents.
 
-use crate::lex;
+use gft_lex::lex;
 use gft_rules::{Refusal, Stop};
 use gft_syntax::TokenForm;
 use std::alloc::{AllocError, Global};
