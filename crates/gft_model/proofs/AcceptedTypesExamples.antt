@@ -63,7 +63,7 @@ module _ (flat : Flat) where
   str_is_data : (A B : CType) → ¬ (out-CType str_type ≡ C.Fun A B)
   str_is_data A B e = let k = out-roll-CType C.Str in cc
 
-  is_record : IsType (items flat) (roll-Term type_layer) literal_type
+  pub is_record : IsType (items flat) (roll-Term type_layer) literal_type
   is_record = labels (form-roll type_layer) (label is_str str_is_data no_label)
 
   -- where a type of data must stand: at the record type and at its label

@@ -108,3 +108,4 @@ pub mod AcceptedAbstractExamples
 pub mod AcceptedGrammarExamples
 pub mod AcceptedImportExamples
 pub mod AcceptedConcreteExamples
+pub mod AcceptedLanguageExamples
