@@ -20,15 +20,15 @@ use Rattle.gft_model.proofs.AcceptedNamesExamples.{one_of, none_of, abstract_e, 
 use Rattle.gft_model.proofs.AcceptedTypesExamples.{no_entry_broken}
 
 -- the judgement of EEng, whatever its names mean
-record IsLincat (e : FlatJudgement) : Type 0 where
-  names : Names
-  whole : e.whole ≡ lincat_entry.whole
-  judgement : e.judgement ≡ resolved_judgement names (lincat_of (codes "S"))
+pub record IsLincat (e : FlatJudgement) : Type 0 where
+  pub names : Names
+  pub whole : e.whole ≡ lincat_entry.whole
+  pub judgement : e.judgement ≡ resolved_judgement names (lincat_of (codes "S"))
 
 -- EEng has nothing else, and it is its own
-entry_is : {Takes : List ℕ → Judgement → Type 0} {entry_name : Judgement → List ℕ → List ℕ} {at : Moment} {e : FlatJudgement}
+pub lincat_is : {Takes : List ℕ → Judgement → Type 0} {entry_name : Judgement → List ℕ → List ℕ} {at : Moment} {e : FlatJudgement}
     → entry_name (lincat_of (codes "S")) (codes "S") ≡ codes "S" → HasEntry mods Takes entry_name (codes "EEng") at e → IsLincat e
-entry_is {entry_name = entry_name} {e = e} main h =
+lincat_is {entry_name = entry_name} {e = e} main h =
     let there = had mods (codes "EEng") e_eng (lincat_of (codes "S")) refl (λ n i e. cc) refl h.has in
     let text =
         written mods (codes "EEng") e_eng (lincat_of (codes "S")) refl (λ n i e. cc) refl
@@ -77,10 +77,10 @@ order_is : {flat : Flat} {order again : List FlatJudgement} → HasOrder mods e_
 order_is (in_order {new} {met} {order} {again} n m t a) =
     in_either order (typed_again again) IsLincat
     (turns_are IsLincat t (in_either new met IsLincat each_new each_met) each_new)
-    (again_are IsLincat again (λ e c. let h = (a.all e).0 c in entry_is refl h.1))
+    (again_are IsLincat again (λ e c. let h = (a.all e).0 c in lincat_is refl h.1))
     where
     each_new : (e : FlatJudgement) → Contains new e → IsLincat e
-    each_new e c = let h = (n.all e).0 c in entry_is refl h.1.3
+    each_new e c = let h = (n.all e).0 c in lincat_is refl h.1.3
     each_met : (e : FlatJudgement) → Contains met e → IsLincat e
     each_met e c = let h = (m.all e).0 c in absurd (met_none h.1)
 

@@ -66,7 +66,7 @@ abbrev pub lincat_entry : FlatJudgement
 lincat_entry =
     record { whole = whole_of (codes "S") (own (codes "EEng") 0); judgement = resolved_judgement no_names (lincat_of (codes "S")) }
 
-is_entry : IsEntry mods (codes "S") (own (codes "EEng") 0) (lincat_of (codes "S")) lincat_entry
+pub is_entry : IsEntry mods (codes "S") (own (codes "EEng") 0) (lincat_of (codes "S")) lincat_entry
 is_entry = record {
   names = no_names;
   meanings = no_meanings mods (codes "EEng") e_eng (lincat_of (codes "S")) refl (λ n i e. cc) refl refl;

@@ -109,3 +109,4 @@ pub mod AcceptedGrammarExamples
 pub mod AcceptedImportExamples
 pub mod AcceptedConcreteExamples
 pub mod AcceptedLanguageExamples
+pub mod AcceptedViewExamples
