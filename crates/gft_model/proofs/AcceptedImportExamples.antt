@@ -29,7 +29,7 @@ use Rattle.gft_model.proofs.AcceptedSlicesExamples.{tokens, spells_e, no_slice_f
 use Rattle.gft_model.proofs.FlatLaws.{flat_once}
 use Rattle.gft_model.proofs.LoadingLaws.{named_once}
 
-abbrev text : List ℕ
+abbrev pub text : List ℕ
 text = codes "abstract E = {cat S ;}"
 
 -- the text is the module, where nothing is broken in its slices
@@ -99,7 +99,7 @@ nothing_broken files at r (abstracts_differ {rest = rest} i {other = other} e g 
 
 -- THE IMPORT
 
-abbrev e_syntax : AbstractSyntax
+abbrev pub e_syntax : AbstractSyntax
 e_syntax = record {
   name = codes "E";
   start = 2;

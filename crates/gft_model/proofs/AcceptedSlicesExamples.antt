@@ -46,7 +46,7 @@ same_text w cs u e f =
     let there = (past_all cs [] (subst IsUtf8 (sym bytes) u)).0 in
     sym (append-nil cs) ∙ ap (λ ds. cs ++ ds) (sym no_characters) ∙ sym there ∙ ap chars bytes ∙ e
 
-abbrev is_outside : TokenForm → Bool
+abbrev pub is_outside : TokenForm → Bool
 is_outside (Reserved W.DataWord) = true
 is_outside (Reserved W.Def) = true
 is_outside (Reserved W.Pre) = true
@@ -107,7 +107,7 @@ unfolding chars is_utf8 lib.Utf8.encode is_xid_start is_xid_continue xid_start_r
 reads_float = record { is_text = (codes "Float", (refl, refl)); characters = refl; form = refl }
 
 -- what is spelled as such a word is one
-spelled_outside : (t : TokenForm) (x : List ℕ) → Contains SyntaxFaults.outside_words x → SyntaxFaults.IsSpelled t x →
+pub spelled_outside : (t : TokenForm) (x : List ℕ) → Contains SyntaxFaults.outside_words x → SyntaxFaults.IsSpelled t x →
     is_outside t ≡ true
 spelled_outside t x (zero, b, e) h = outside t reads_data refl (subst (SyntaxFaults.IsSpelled t) (sym e) h)
 spelled_outside t x (suc zero, b, e) h = outside t reads_def refl (subst (SyntaxFaults.IsSpelled t) (sym e) h)
@@ -123,7 +123,7 @@ spelled_outside t x (suc (suc (suc (suc (suc (suc (suc (suc (suc k)))))))), b, e
 -- THE SLICES
 
 -- the brace that is the first is one
-opens_once : (h k : Tokens) {l m : SourceToken} {b c : Tokens} → SyntaxFaults.NoBody h → SyntaxFaults.NoBody k → Is S.LeftBrace l →
+pub opens_once : (h k : Tokens) {l m : SourceToken} {b c : Tokens} → SyntaxFaults.NoBody h → SyntaxFaults.NoBody k → Is S.LeftBrace l →
     Is S.LeftBrace m → h ++ l ∷ b ≡ k ++ m ∷ c → (h ≡ k) × (l ≡ m) × (b ≡ c)
 opens_once [] [] n o p q e = (refl, cc, cc)
 opens_once [] (t ∷ k) {l} {m} n o p q e =
@@ -137,18 +137,18 @@ opens_once (t ∷ h) (u ∷ k) {l} {m} {b} {c} n o p q e =
         opens_once h k (λ v d. n v (suc d.0, omega (arith, d.1), d.2)) (λ v d. o v (suc d.0, omega (arith, d.1), d.2)) p q tails in
     ((λ i. heads i ∷ rest.0 i), rest.1, rest.2)
 
-standing : (held rest : Tokens) (t : SourceToken) → Contains (held ++ t ∷ rest) t
+pub standing : (held rest : Tokens) (t : SourceToken) → Contains (held ++ t ∷ rest) t
 standing [] rest t = (0, omega arith, refl)
 standing (u ∷ held) rest t = let c = standing held rest t in (suc c.0, omega (arith, c.1), c.2)
 
-spells_some : {before : Option Keyword} {s : Tokens} {k : Keyword} {j : Judgement} → SpellsSlice before s k j → s ≡ [] → ⊥
+pub spells_some : {before : Option Keyword} {s : Tokens} {k : Keyword} {j : Judgement} → SpellsSlice before s k j → s ≡ [] → ⊥
 spells_some (with_keyword w d) e = cc
 spells_some (goes_on d) e = cc
 
-first_has_none : {k : Option Keyword} {js : List Judgement} → SpellsSlices None [] k js → k ≡ None
+pub first_has_none : {k : Option Keyword} {js : List Judgement} → SpellsSlices None [] k js → k ≡ None
 first_has_none no_slice = refl
 
-keyword_of : {b c : Bool} {k l : Option Keyword} → SyntaxFaults.in_body b k ≡ SyntaxFaults.in_body c l → k ≡ l
+pub keyword_of : {b c : Bool} {k l : Option Keyword} → SyntaxFaults.in_body b k ≡ SyntaxFaults.in_body c l → k ≡ l
 keyword_of e = cc
 
 module _ (file : ℕ) where

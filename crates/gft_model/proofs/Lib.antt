@@ -110,3 +110,5 @@ pub mod AcceptedImportExamples
 pub mod AcceptedConcreteExamples
 pub mod AcceptedLanguageExamples
 pub mod AcceptedViewExamples
+pub mod AcceptedTextExamples
+pub mod AcceptedLanguageImportExamples
