@@ -12,7 +12,6 @@ use Rattle.ucd_table.specs.Rows.{in_ranges}
 use Rattle.gft_io.specs.Outside.{Files}
 use Rattle.gft_rules.specs.declared.refusal.Refusal.{Refusal}
 use Rattle.gft_syntax.specs.declared.flat.Flat.{Flat}
-use Rattle.gft_syntax.specs.declared.linear.Typed.{Typed}
 use Rattle.gft_syntax.specs.declared.module.Module.{Module}
 use Rattle.gft_model.specs.AbstractFaults.{its_context, no_context}
 use Rattle.gft_model.specs.AbstractParts.{IsAbstractPart}
@@ -21,6 +20,7 @@ use Rattle.gft_model.specs.Import.{IsView, AreTypings, is_named, BreaksModule, B
 use Rattle.gft_model.specs.Loading
 use Rattle.gft_model.specs.Modules.{header_name, module_named}
 use Rattle.gft_model.specs.Refusals.{Moment, IsAccepted}
+use Rattle.gft_model.specs.Sessions.{source, IsImported}
 use Rattle.gft_model.specs.Source.{Tokens}
 use Rattle.gft_model.specs.States.{Loaded, of_source}
 use Rattle.gft_model.proofs.AcceptedAbstractExamples.{entry_of_s, e_accepted}
@@ -152,3 +152,13 @@ module _ (files : Files) (has : get files file_name ≡ Some language_text) (has
   -- and gives the abstract syntax of E with the language EEng
   pub gives_e_eng : GivesPart files (file_name ∷ []) file_name e_eng_part
   gives_e_eng = with_language (loads files has has_e) has_language (of_its_source refl is_view is_abstract_part)
+
+  -- which is all that the import gives to a session
+  pub is_imported : IsImported files (file_name ∷ []) e_eng_part
+  is_imported = record {
+    accepted = is_accepted;
+    parts = e_eng_part ∷ [];
+    given = (source (codes "EEng", refl) gives_e_eng, tt);
+    abs = refl;
+    languages = refl;
+  }
