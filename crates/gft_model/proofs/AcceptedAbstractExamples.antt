@@ -34,7 +34,8 @@ use Rattle.gft_model.proofs.AcceptedNamesExamples.{one_of, none_of, named, abstr
 -- WHAT IS TYPED
 
 -- what holds of all that is to have a turn and of all that may be needed holds of all that has one
-before_are : {es funs : List FlatJudgement} {e : FlatJudgement} {fs ns : List FlatJudgement} (P : FlatJudgement → Type 0) → Before es funs e fs ns →
+before_are : {es funs : List FlatJudgement} {e : FlatJudgement} {fs ns : List FlatJudgement} (P : FlatJudgement → Type 0) →
+    Before es funs e fs ns →
     ((f : FlatJudgement) → Contains fs f → P f) → (f : FlatJudgement) → Contains ns f → P f
 before_are P none h f c = absurd (none_of c)
 before_are P (needed d n b) h g (zero, c, e) = h g (0, omega arith, e)
@@ -42,7 +43,8 @@ before_are P (needed d n b) h g (suc k, c, e) =
     before_are P b (λ f i. h f (suc i.0, omega (arith, i.1), i.2)) g (k, omega (arith, c), e)
 before_are P (not_needed n b) h g c = before_are P b (λ f i. h f (suc i.0, omega (arith, i.1), i.2)) g c
 
-pub in_either : {A : Type 0} (xs ys : List A) (P : A → Type 0) → ((x : A) → Contains xs x → P x) → ((x : A) → Contains ys x → P x) →
+pub in_either : {A : Type 0} (xs ys : List A) (P : A → Type 0) → ((x : A) → Contains xs x → P x) →
+    ((x : A) → Contains ys x → P x) →
     (x : A) → Contains (xs ++ ys) x → P x
 in_either [] ys P h k x c = k x c
 in_either (y ∷ xs) ys P h k x (zero, b, e) = h x (0, omega arith, e)
@@ -55,7 +57,8 @@ pub turns_are : {es funs list typed todo order : List FlatJudgement} (P : FlatJu
 turns_are P no_turn h k f c = absurd (none_of c)
 turns_are P (typed_already t d) h k f c = turns_are P d h (λ g i. k g (suc i.0, omega (arith, i.1), i.2)) f c
 turns_are P (its_turn {first = first} {later = later} {e = e} n b d r) h k f c =
-    in_either first (e ∷ later) P (turns_are P d h (before_are P b h)) (tail (turns_are P r h (λ g i. k g (suc i.0, omega (arith, i.1), i.2)))) f c
+    in_either first (e ∷ later) P (turns_are P d h (before_are P b h))
+        (tail (turns_are P r h (λ g i. k g (suc i.0, omega (arith, i.1), i.2)))) f c
     where
     tail : ((g : FlatJudgement) → Contains later g → P g) → (g : FlatJudgement) → Contains (e ∷ later) g → P g
     tail after g (zero, i, j) = k g (0, omega arith, j)
@@ -79,7 +82,8 @@ module _ (mods : List Module) (file : ℕ) (is : Is mods (codes "E") (abstract_e
   written_in_e w = written mods (codes "E") (abstract_e file) (category_s file) refl (λ n i e. cc) is w
 
   -- what E has is the category
-  pub entry_is : {Takes : List ℕ → Judgement → Type 0} {entry_name : Judgement → List ℕ → List ℕ} {at : Moment} {f : FlatJudgement}
+  pub entry_is : {Takes : List ℕ → Judgement → Type 0} {entry_name : Judgement → List ℕ → List ℕ} {at : Moment}
+      {f : FlatJudgement}
       → entry_name (category_s file) (codes "S") ≡ codes "S" → HasEntry mods Takes entry_name (codes "E") at f
       → (f ≡ entry_of_s file) × Takes (codes "S") (category_s file)
   entry_is {Takes} {entry_name} {f = f} main h =
@@ -107,14 +111,16 @@ module _ (mods : List Module) (file : ℕ) (is : Is mods (codes "E") (abstract_e
       contexts f = cc
     stands_none (AbstractFaults.part k d g) = stands_none d
 
-    pub no_abstract_fault : {at : Moment} {r : Refusal} → AbstractFaults.BreaksAbstract cats funs LeftOut (category_s file) at r → ⊥
+    pub no_abstract_fault : {at : Moment} {r : Refusal} →
+        AbstractFaults.BreaksAbstract cats funs LeftOut (category_s file) at r → ⊥
     no_abstract_fault (AbstractFaults.at_term d b) = stands_none d
     no_abstract_fault (AbstractFaults.list_of_no_category e n) = cc
     no_abstract_fault (AbstractFaults.list_of_indexed e t) = cc
     no_abstract_fault (AbstractFaults.list_left_out e n) = cc
 
   -- no module has judgements that are typed where others rest on them
-  module _ (none_met : (i : ℕ) (m : Module) → slice_get mods i ≡ Some m → (is_interface m.header || is_incomplete m.header) ≡ false) where
+  module _ (none_met : (i : ℕ) (m : Module) → slice_get mods i ≡ Some m →
+      (is_interface m.header || is_incomplete m.header) ≡ false) where
     met_none : {at : Moment} {e : FlatJudgement} → IsMet mods at e → ⊥
     met_none (i, m, within, a, g, b, h) = let wrong : true ≡ false = sym b ∙ none_met i m g in cc
 

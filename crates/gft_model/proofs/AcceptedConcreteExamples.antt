@@ -43,7 +43,8 @@ lincat_is {entry_name = entry_name} {e = e} main h =
     }
 
 -- neither module is an interface or incomplete
-pub module_is_complete : (i : ℕ) (m : Module) → slice_get mods i ≡ Some m → (is_interface m.header || is_incomplete m.header) ≡ false
+pub module_is_complete : (i : ℕ) (m : Module) → slice_get mods i ≡ Some m →
+    (is_interface m.header || is_incomplete m.header) ≡ false
 module_is_complete zero m e =
     let same : m ≡ abstract_e 1 = cc in ap (λ (k : Module). is_interface k.header || is_incomplete k.header) same
 module_is_complete (suc zero) m e =

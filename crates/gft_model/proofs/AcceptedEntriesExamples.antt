@@ -64,7 +64,8 @@ module _ (mods : List Module) (M : List ℕ) (m : Module) (j : Judgement) (rest 
 -- the judgement of EEng under its whole name
 abbrev pub lincat_entry : FlatJudgement
 lincat_entry =
-    record { whole = whole_of (codes "S") (own (codes "EEng") 0); judgement = resolved_judgement no_names (lincat_of (codes "S")) }
+    record { whole = whole_of (codes "S") (own (codes "EEng") 0); judgement =
+        resolved_judgement no_names (lincat_of (codes "S")) }
 
 pub is_entry : IsEntry mods (codes "S") (own (codes "EEng") 0) (lincat_of (codes "S")) lincat_entry
 is_entry = record {
@@ -119,7 +120,8 @@ t_is_unknown is_constructor =
 -- in EUs it is there, and ignored
 pub t_is_inherited : Has mods_of_t (codes "EUs") (codes "T") (own (codes "EEng") 0)
 t_is_inherited =
-    is_given refl (inherits {h = Whole (named 2 21 (codes "EEng"))} (0, omega arith, refl) refl (declares 0 refl refl (0, omega arith, refl)))
+    is_given refl (inherits {h = Whole (named 2 21 (codes "EEng"))} (0, omega arith, refl) refl (declares 0 refl refl
+        (0, omega arith, refl)))
 
 pub t_is_ignored : Ignored mods_of_t (header_mentions e_us.header) (codes "T") (lincat_of (codes "T"))
 t_is_ignored = (λ e. cc, named 2 17 (codes "E"), (0, omega arith, refl), not_of_e)
@@ -143,7 +145,8 @@ nothing_is_typed at e h =
     let text : h.judgement ≡ lincat_of (codes "T") =
         written mods_of_t (codes "EEng") t_eng (lincat_of (codes "T")) refl (λ n i f. cc) refl
         (subst (λ d. Writes mods_of_t d h.judgement) there.1 h.writes) in
-    let ignored = subst (λ x. Ignored mods_of_t (header_mentions e_us.header) x (lincat_of (codes "T"))) (one_of there.0) t_is_ignored in
+    let ignored =
+        subst (λ x. Ignored mods_of_t (header_mentions e_us.header) x (lincat_of (codes "T"))) (one_of there.0) t_is_ignored in
     h.taken (subst (Ignored mods_of_t (header_mentions e_us.header) h.name) (sym text) ignored)
 
 -- and nothing is broken in the names of EUs itself

@@ -111,7 +111,8 @@ of_part {p} h =
     let there = entry_is mods 0 refl refl h in
     let part : Some categories ≡ Some p = there.1 in (there.0, cc)
 
-of_abstract : {p : Part} {at : Moment} {e : FlatJudgement} → HasAbstract mods p chosen at e → (e ≡ entry_of_s 0) × (p ≡ categories)
+of_abstract : {p : Part} {at : Moment} {e : FlatJudgement} → HasAbstract mods p chosen at e →
+    (e ≡ entry_of_s 0) × (p ≡ categories)
 of_abstract {p} {at} {e} (m, is, h) =
     let same : m ≡ abstract_e 0 = cc in
     of_part (subst (λ (k : Module). HasOfPart mods p (header_name k.header).name at e) same h)

@@ -57,7 +57,8 @@ module _ (files : Files) (has : get files file_name ≡ Some text) where
   loads =
       Loading.source_loaded (codes "E", refl)
       (Loading.loaded_now (none_loaded (codes "E")) (omega arith)
-          (Loading.complete {t = record { files = file_name ∷ []; modules = [] }} (has, omega arith) (is_source 0) refl Loading.no_more))
+          (Loading.complete {t = record { files = file_name ∷ []; modules = [] }} (has, omega arith)
+              (is_source 0) refl Loading.no_more))
       Loading.none_named
 
 -- WHAT IS LOADED

@@ -101,7 +101,8 @@ one_cell = simp cells-roll
 one_case : length (cases_in language (codes "EEng") (codes "S")) ≡ 1
 one_case = simp cells-roll
 
-evaluates_none : {k : Keyword} {x : List ℕ} {cases : List (List Outcome)} → CompileFaults.Evaluates language (codes "EEng") k x cases → ⊥
+evaluates_none : {k : Keyword} {x : List ℕ} {cases : List (List Outcome)} →
+    CompileFaults.Evaluates language (codes "EEng") k x cases → ⊥
 evaluates_none (CompileFaults.of_function c h) = none_of c
 evaluates_none (CompileFaults.of_hole c h) =
     let wrong = subst (λ x. CompileFaults.is_there language (codes "EEng") K.Lindef x ≡ true) (sym (category_is c)) h in cc

@@ -93,7 +93,8 @@ file_is (suc i) e = cc
 view_once : {m : Module} {f : Flat} → m ≡ e_eng → IsView mods m f → f ≡ untyped
 view_once {f = f} same v = flat_once mods (codes "E" ∷ codes "EEng" ∷ []) f untyped (subst (λ k. IsView mods k f) same v) is_view
 
-no_language_broken : {file lang : List ℕ} {f : Flat} {at : Moment} {r : Refusal} → file_name ≡ file → HasLanguage mods file lang f →
+no_language_broken : {file lang : List ℕ} {f : Flat} {at : Moment} {r : Refusal} → file_name ≡ file →
+    HasLanguage mods file lang f →
     BreaksCompiling f lang at r → ⊥
 no_language_broken {at = at} {r = r} same (of_module {n = n} {flat = f} {typings = ts} is h v t) b =
     let module_there = named_is same is in

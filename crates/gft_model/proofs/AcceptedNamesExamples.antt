@@ -1,4 +1,4 @@
--- A worked example of a module whose names are accepted: abstract E = {cat S ;} and concrete EEng of E = {lincat S = {s : Str} ;}.
+-- A worked example of names that are accepted: abstract E = {cat S ;}, concrete EEng of E = {lincat S = {s : Str} ;}.
 use Rattle.std.proofs.Common.{◌≡◌, ap, sym, ◌∙◌, refl, ℕ, zero, suc, true, false, Bool, List, [], ◌∷◌, length, Option, Some, None, subst, arith, ◌⊎◌, inl, inr}
 use Rattle.std.specs.Prelude.{codes, bytes_eq, flat_map, option_to_list, Contains, slice_get}
 use Rattle.gft_core.specs.declared.place.Place.{Place}
@@ -99,7 +99,8 @@ module _ (is_constructor : List ℕ → Bool) where
     below (inr h) = absurd (none_of (subst (λ d. Contains (parts d) p) h c))
 
   -- neither is a name, nor of the forms that name something
-  no_form : {xs : Locals} {b : Bool} {e : Term} {d : Layer} → NameFaults.Within mods e_eng is_constructor xs b e → out-Term e ≡ d →
+  no_form : {xs : Locals} {b : Bool} {e : Term} {d : Layer} → NameFaults.Within mods e_eng is_constructor xs b e →
+      out-Term e ≡ d →
       (type_layer ≡ d → ⊥) → (str_layer ≡ d → ⊥) → ⊥
   no_form {e = e} {d = d} w h f g = of (term_is w) where
     of : (out-Term e ≡ type_layer) ⊎ (out-Term e ≡ str_layer) → ⊥
@@ -141,7 +142,8 @@ module _ (is_constructor : List ℕ → Bool) where
       let name = one_of (subst (λ i. Contains (placed_names i) n) (sym judgement) d) in
       let abstract = one_of a in
       subst (λ (B : PlacedName). IsOf mods B.name n.name j) abstract
-      (subst (λ (x : PlacedName). IsOf mods (codes "E") x.name j) name (subst (IsOf mods (codes "E") (codes "S")) judgement is_of_e))
+      (subst (λ (x : PlacedName). IsOf mods (codes "E") x.name j) name (subst (IsOf mods (codes "E")
+          (codes "S")) judgement is_of_e))
 
   -- so nothing is broken in its names
   pub no_name_broken : (rule : Rule) (n : PlacedName) (ms : List PlacedName) →

@@ -113,17 +113,23 @@ spelled_outside t x (zero, b, e) h = outside t reads_data refl (subst (SyntaxFau
 spelled_outside t x (suc zero, b, e) h = outside t reads_def refl (subst (SyntaxFaults.IsSpelled t) (sym e) h)
 spelled_outside t x (suc (suc zero), b, e) h = outside t reads_pre refl (subst (SyntaxFaults.IsSpelled t) (sym e) h)
 spelled_outside t x (suc (suc (suc zero)), b, e) h = outside t reads_strs refl (subst (SyntaxFaults.IsSpelled t) (sym e) h)
-spelled_outside t x (suc (suc (suc (suc zero))), b, e) h = outside t reads_printname refl (subst (SyntaxFaults.IsSpelled t) (sym e) h)
-spelled_outside t x (suc (suc (suc (suc (suc zero)))), b, e) h = outside t reads_transfer refl (subst (SyntaxFaults.IsSpelled t) (sym e) h)
-spelled_outside t x (suc (suc (suc (suc (suc (suc zero))))), b, e) h = outside t reads_union refl (subst (SyntaxFaults.IsSpelled t) (sym e) h)
-spelled_outside t x (suc (suc (suc (suc (suc (suc (suc zero)))))), b, e) h = outside t reads_reuse refl (subst (SyntaxFaults.IsSpelled t) (sym e) h)
-spelled_outside t x (suc (suc (suc (suc (suc (suc (suc (suc zero))))))), b, e) h = outside t reads_float refl (subst (SyntaxFaults.IsSpelled t) (sym e) h)
+spelled_outside t x (suc (suc (suc (suc zero))), b, e) h =
+    outside t reads_printname refl (subst (SyntaxFaults.IsSpelled t) (sym e) h)
+spelled_outside t x (suc (suc (suc (suc (suc zero)))), b, e) h =
+    outside t reads_transfer refl (subst (SyntaxFaults.IsSpelled t) (sym e) h)
+spelled_outside t x (suc (suc (suc (suc (suc (suc zero))))), b, e) h =
+    outside t reads_union refl (subst (SyntaxFaults.IsSpelled t) (sym e) h)
+spelled_outside t x (suc (suc (suc (suc (suc (suc (suc zero)))))), b, e) h =
+    outside t reads_reuse refl (subst (SyntaxFaults.IsSpelled t) (sym e) h)
+spelled_outside t x (suc (suc (suc (suc (suc (suc (suc (suc zero))))))), b, e) h =
+    outside t reads_float refl (subst (SyntaxFaults.IsSpelled t) (sym e) h)
 spelled_outside t x (suc (suc (suc (suc (suc (suc (suc (suc (suc k)))))))), b, e) h = absurd (omega (arith, b))
 
 -- THE SLICES
 
 -- the brace that is the first is one
-pub opens_once : (h k : Tokens) {l m : SourceToken} {b c : Tokens} → SyntaxFaults.NoBody h → SyntaxFaults.NoBody k → Is S.LeftBrace l →
+pub opens_once : (h k : Tokens) {l m : SourceToken} {b c : Tokens} → SyntaxFaults.NoBody h → SyntaxFaults.NoBody k →
+    Is S.LeftBrace l →
     Is S.LeftBrace m → h ++ l ∷ b ≡ k ++ m ∷ c → (h ≡ k) × (l ≡ m) × (b ≡ c)
 opens_once [] [] n o p q e = (refl, cc, cc)
 opens_once [] (t ∷ k) {l} {m} n o p q e =
@@ -134,7 +140,8 @@ opens_once (t ∷ h) (u ∷ k) {l} {m} {b} {c} n o p q e =
     let tails : h ++ l ∷ b ≡ k ++ m ∷ c = cc in
     let heads : t ≡ u = cc in
     let rest =
-        opens_once h k (λ v d. n v (suc d.0, omega (arith, d.1), d.2)) (λ v d. o v (suc d.0, omega (arith, d.1), d.2)) p q tails in
+        opens_once h k (λ v d. n v (suc d.0, omega (arith, d.1), d.2))
+            (λ v d. o v (suc d.0, omega (arith, d.1), d.2)) p q tails in
     ((λ i. heads i ∷ rest.0 i), rest.1, rest.2)
 
 pub standing : (held rest : Tokens) (t : SourceToken) → Contains (held ++ t ∷ rest) t
@@ -180,7 +187,8 @@ module _ (file : ℕ) where
   pub spells_e : SpellsModule tokens (abstract_e file)
   spells_e =
       a_module (plain_module an_abstract refl refl) refl
-      (own_body nothing_before (closed_body {ss = category_tokens ∷ [] ∷ []} refl refl (slice spells_category (empty_slice no_slice))))
+      (own_body nothing_before (closed_body {ss = category_tokens ∷ [] ∷ []} refl refl (slice spells_category
+          (empty_slice no_slice))))
       at_once
 
   -- a header by itself is in the grammar
@@ -277,7 +285,8 @@ module _ (file : ℕ) where
   no_terms {before = before} {k = k} {j = j} {e = e} (of_category h f) d c =
       let first = keyword_of h in
       let there = subst (λ b. SpellsSlice b category_tokens k j) first (subst (λ ts. SpellsSlice before ts k j) f d) in
-      none_of (subst (λ i. Contains (map (λ (p : Part Term). p.part) (judgement_parts i)) e) (slice-once there spells_category).1 c)
+      none_of (subst (λ i. Contains (map (λ (p : Part Term). p.part) (judgement_parts i)) e)
+          (slice-once there spells_category).1 c)
   no_terms (of_nothing l h f) d c = spells_some d f
   no_terms (of_end h f) d c = cc
 

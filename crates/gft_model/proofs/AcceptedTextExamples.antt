@@ -39,7 +39,8 @@ brace = token 0 22 (Symbol S.LeftBrace)
 
 abbrev type_tokens : Tokens
 type_tokens =
-    token 0 34 (Symbol S.LeftBrace) ∷ token 0 35 (Identifier (codes "s")) ∷ token 0 37 (Symbol S.Colon) ∷ token 0 39 (Reserved W.Str)
+    token 0 34 (Symbol S.LeftBrace) ∷ token 0 35 (Identifier (codes "s")) ∷ token 0 37 (Symbol S.Colon)
+    ∷ token 0 39 (Reserved W.Str)
     ∷ token 0 42 (Symbol S.RightBrace) ∷ []
 
 abbrev pub lincat_tokens : Tokens
@@ -59,8 +60,10 @@ at_exp d =
         (Rules.tighter_term Rules.below_exp3 (Rules.tighter_term Rules.below_exp4 (Rules.tighter_term Rules.below_exp5 d)))))
 
 spells_label : Rules.Spells local (token 0 35 (Identifier (codes "s")) ∷ token 0 37 (Symbol S.Colon) ∷ token 0 39 (Reserved W.Str)
-    ∷ token 0 42 (Symbol S.RightBrace) ∷ []) (Label (codes "s" ∷ []) (roll-Term str_layer)) (token 0 42 (Symbol S.RightBrace) ∷ [])
-spells_label = Rules.local_type (Rules.one (Rules.a_name refl)) refl (at_exp (Rules.sort Rules.strings refl (out-roll-Term str_layer)))
+    ∷ token 0 42 (Symbol S.RightBrace) ∷ []) (Label (codes "s" ∷ []) (roll-Term str_layer))
+    (token 0 42 (Symbol S.RightBrace) ∷ [])
+spells_label =
+    Rules.local_type (Rules.one (Rules.a_name refl)) refl (at_exp (Rules.sort Rules.strings refl (out-roll-Term str_layer)))
 
 spells_type : Rules.Spells (term exp) type_tokens (roll-Term type_layer) []
 spells_type = at_exp (Rules.fields refl (Rules.last spells_label) refl refl (out-roll-Term type_layer))
@@ -108,12 +111,18 @@ plain_in_header t (suc (suc (suc (suc (suc k)))), b, e) = absurd (omega (arith, 
 plain_in_lincat : (t : SourceToken) → Contains lincat_tokens t → IsPlain t.form
 plain_in_lincat t (zero, b, e) = subst (λ (u : SourceToken). IsPlain u.form) e (record { inside = refl; no_minus = λ h. cc })
 plain_in_lincat t (suc zero, b, e) = subst (λ (u : SourceToken). IsPlain u.form) e (record { inside = refl; no_minus = λ h. cc })
-plain_in_lincat t (suc (suc zero), b, e) = subst (λ (u : SourceToken). IsPlain u.form) e (record { inside = refl; no_minus = λ h. cc })
-plain_in_lincat t (suc (suc (suc zero)), b, e) = subst (λ (u : SourceToken). IsPlain u.form) e (record { inside = refl; no_minus = λ h. cc })
-plain_in_lincat t (suc (suc (suc (suc zero))), b, e) = subst (λ (u : SourceToken). IsPlain u.form) e (record { inside = refl; no_minus = λ h. cc })
-plain_in_lincat t (suc (suc (suc (suc (suc zero)))), b, e) = subst (λ (u : SourceToken). IsPlain u.form) e (record { inside = refl; no_minus = λ h. cc })
-plain_in_lincat t (suc (suc (suc (suc (suc (suc zero))))), b, e) = subst (λ (u : SourceToken). IsPlain u.form) e (record { inside = refl; no_minus = λ h. cc })
-plain_in_lincat t (suc (suc (suc (suc (suc (suc (suc zero)))))), b, e) = subst (λ (u : SourceToken). IsPlain u.form) e (record { inside = refl; no_minus = λ h. cc })
+plain_in_lincat t (suc (suc zero), b, e) =
+    subst (λ (u : SourceToken). IsPlain u.form) e (record { inside = refl; no_minus = λ h. cc })
+plain_in_lincat t (suc (suc (suc zero)), b, e) =
+    subst (λ (u : SourceToken). IsPlain u.form) e (record { inside = refl; no_minus = λ h. cc })
+plain_in_lincat t (suc (suc (suc (suc zero))), b, e) =
+    subst (λ (u : SourceToken). IsPlain u.form) e (record { inside = refl; no_minus = λ h. cc })
+plain_in_lincat t (suc (suc (suc (suc (suc zero)))), b, e) =
+    subst (λ (u : SourceToken). IsPlain u.form) e (record { inside = refl; no_minus = λ h. cc })
+plain_in_lincat t (suc (suc (suc (suc (suc (suc zero))))), b, e) =
+    subst (λ (u : SourceToken). IsPlain u.form) e (record { inside = refl; no_minus = λ h. cc })
+plain_in_lincat t (suc (suc (suc (suc (suc (suc (suc zero)))))), b, e) =
+    subst (λ (u : SourceToken). IsPlain u.form) e (record { inside = refl; no_minus = λ h. cc })
 plain_in_lincat t (suc (suc (suc (suc (suc (suc (suc (suc k))))))), b, e) = absurd (omega (arith, b))
 
 -- no more brackets are open than there are tokens

@@ -190,7 +190,8 @@ module _ (flat : Flat) where
   no_term h (TypeFaults.no_branch_over f g) = no_form h f (λ j. cc) (λ j. cc)
   no_term {Γ} {e = e} h (TypeFaults.found_does_not_fit {A} g p b n) =
       let type = given_sort (mode_there h) g in
-      let checks = checks_sort {Γ = Γ} (type_there h).1 (no_first h) (subst (λ S. passes (form e) (out-CType S) ≡ false) type p) in
+      let checks =
+          checks_sort {Γ = Γ} (type_there h).1 (no_first h) (subst (λ S. passes (form e) (out-CType S) ≡ false) type p) in
       n checks.0 (subst (λ S. Checks (items flat) Γ e S checks.0) (sym type) checks.1)
   no_term h (TypeFaults.own_type_does_not_fit f g c n) = let role = (stands h).role in cc
   no_term h (TypeFaults.table_over_another g t (TypeFaults.with_branches f) b n) = no_form h f (λ j. cc) (λ j. cc)

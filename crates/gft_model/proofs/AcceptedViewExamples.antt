@@ -36,7 +36,8 @@ of_e_eng {p} h =
         (subst (λ d. Writes mods d h.judgement) there.1 h.writes) in
     let wrong : None ≡ Some p = ap (part_of h.name) (sym text) ∙ h.taken in cc
 
-of_abstract : {p : Part} {at : Moment} {e : FlatJudgement} → HasAbstract mods p chosen at e → (e ≡ entry_of_s 1) × (p ≡ categories)
+of_abstract : {p : Part} {at : Moment} {e : FlatJudgement} → HasAbstract mods p chosen at e →
+    (e ≡ entry_of_s 1) × (p ≡ categories)
 of_abstract {p} {at} {e} (m, is, h) =
     let same : m ≡ abstract_e 1 = cc in
     of_e (subst (λ (k : Module). HasOfPart mods p (header_name k.header).name at e) same h)
@@ -93,7 +94,8 @@ only_lincat : (at : Moment) (e : FlatJudgement) → HasLinearization mods (codes
 only_lincat at e h =
     let there = lincat_is refl h in
     let judgement : e.judgement ≡ lincat_entry.judgement =
-        there.judgement ∙ ap (J.Lincat (named 0 30 (codes "S") ∷ [])) (type_resolved there.names ∙ sym (type_resolved no_names)) in
+        there.judgement ∙ ap (J.Lincat (named 0 30 (codes "S") ∷ [])) (type_resolved there.names ∙ sym
+            (type_resolved no_names)) in
     sym (λ i. record { whole = there.whole i; judgement = judgement i })
 
 pub is_view : IsView mods e_eng untyped
