@@ -1,7 +1,6 @@
 -- A worked example of an abstract module that is accepted, abstract E = {cat S ;}, whatever the other modules are.
-use Rattle.std.proofs.Common.{◌≡◌, ap, sym, ◌∙◌, refl, ℕ, zero, suc, true, false, Bool, List, [], ◌∷◌, ◌++◌, length, Option, Some, None, subst, arith, ◌⊎◌, inl, inr, length-append}
-use Rattle.std.proofs.lemmas.Slice.Eq.{bytes_eq-Decides}
-use Rattle.std.specs.Prelude.{codes, bytes_eq, map, Contains, slice_get, ◌||◌, if◌then◌else◌}
+use Rattle.std.proofs.Common.{◌≡◌, ap, sym, ◌∙◌, refl, ℕ, zero, suc, true, false, Bool, List, [], ◌∷◌, ◌++◌, Option, Some, subst, arith}
+use Rattle.std.specs.Prelude.{codes, Contains, slice_get, ◌||◌}
 use Rattle.gft_core.specs.declared.place.Place.{Place}
 use Rattle.gft_rules.specs.declared.refusal.Refusal.{Refusal}
 use Rattle.gft_rules.specs.declared.rule.Rule.{Rule}
@@ -10,7 +9,6 @@ use Rattle.gft_syntax.specs.declared.flat.FlatJudgement.{FlatJudgement}
 use Rattle.gft_syntax.specs.declared.judgement.Context.{Context}
 use Rattle.gft_syntax.specs.declared.judgement.Judgement.{Judgement}
 use Rattle.gft_syntax.specs.declared.judgement.Judgement.TheVariants as J
-use Rattle.gft_syntax.specs.declared.judgement.Keyword.{Keyword}
 use Rattle.gft_syntax.specs.declared.module.Header.TheVariants.{Instance}
 use Rattle.gft_syntax.specs.declared.module.Module.{Module}
 use Rattle.gft_syntax.specs.declared.pattern.Pattern.{Pattern}
@@ -19,15 +17,14 @@ use Rattle.gft_syntax.specs.declared.reference.Whole.{Whole}
 use Rattle.gft_syntax.specs.declared.term.Term.{Term}
 use Rattle.gft_syntax.specs.Parts.{judgement_parts}
 use Rattle.gft_model.specs.AbstractFaults
-use Rattle.gft_model.specs.Flats.{HasEntry, IsConstructor, IsEntry, IsMeaning, AreMeanings, AreListed, alone, whole_of}
+use Rattle.gft_model.specs.Flats.{HasEntry, alone, whole_of}
 use Rattle.gft_model.specs.Import.{LeftOut, HasOrder, in_order, BreaksModule, in_header, twice, in_names, in_abstract, in_types, in_instance}
-use Rattle.gft_model.specs.InstanceFaults.{Replaced, replaced, BreaksInstance, in_declared_type, of_another_type}
-use Rattle.gft_model.specs.JudgementOrder.{Before, none, needed, not_needed, Turns, no_turn, typed_already, its_turn, IsMet, HasTyped}
-use Rattle.gft_model.specs.Modules.{Is, Has, HasNameable, Means, own_name, own, own_text, declares, Declared, Writes, is_interface, is_incomplete, header_mentions, judgements_of}
+use Rattle.gft_model.specs.InstanceFaults.{replaced, BreaksInstance, in_declared_type, of_another_type}
+use Rattle.gft_model.specs.JudgementOrder.{Before, none, needed, not_needed, Turns, no_turn, typed_already, its_turn, IsMet}
+use Rattle.gft_model.specs.Modules.{Is, Has, own, Declared, Writes, is_interface, is_incomplete}
 use Rattle.gft_model.specs.NameFaults
 use Rattle.gft_model.specs.Refusals.{Moment, IsAccepted}
-use Rattle.gft_model.specs.Resolution.{Locals, Names, resolved_judgement}
-use Rattle.gft_model.proofs.AcceptedEntriesExamples.{means_own}
+use Rattle.gft_model.specs.Resolution.{Locals, resolved_judgement}
 use Rattle.gft_model.proofs.AcceptedHeaderExamples.{had, written, e_header, e_redefines_none}
 use Rattle.gft_model.proofs.AcceptedNamesExamples.{one_of, none_of, named, abstract_e}
 
@@ -58,8 +55,8 @@ turns_are P no_turn h k f c = absurd (none_of c)
 turns_are P (typed_already t d) h k f c = turns_are P d h (λ g i. k g (suc i.0, omega (arith, i.1), i.2)) f c
 turns_are P (its_turn {first = first} {later = later} {e = e} n b d r) h k f c =
     in_either first (e ∷ later) P (turns_are P d h (before_are P b h))
-        (tail (turns_are P r h (λ g i. k g (suc i.0, omega (arith, i.1), i.2)))) f c
-    where
+    (tail (turns_are P r h (λ g i. k g (suc i.0, omega (arith, i.1), i.2)))) f c
+  where
     tail : ((g : FlatJudgement) → Contains later g → P g) → (g : FlatJudgement) → Contains (e ∷ later) g → P g
     tail after g (zero, i, j) = k g (0, omega arith, j)
     tail after g (suc l, i, j) = after g (l, omega (arith, i), j)
@@ -91,11 +88,12 @@ module _ (mods : List Module) (file : ℕ) (is : Is mods (codes "E") (abstract_e
       let text = written_in_e (subst (λ d. Writes mods d h.judgement) there.1 h.writes) in
       let name : entry_name h.judgement h.name ≡ codes "S" = (λ i. entry_name (text i) (sym there.0 i)) ∙ main in
       let whole : f.whole ≡ (entry_of_s file).whole =
-          h.entry.whole ∙ ap (λ x. whole_of x h.declared) name ∙ ap (whole_of (codes "S")) there.1 in
+      h.entry.whole ∙ ap (λ x. whole_of x h.declared) name ∙ ap (whole_of (codes "S")) there.1 in
       let judgement : f.judgement ≡ category_s file =
-          h.entry.judgement ∙ ap (λ j. resolved_judgement h.entry.names (alone (entry_name h.judgement h.name) j)) text in
-      ((λ i. record { whole = whole i; judgement = judgement i }),
-          subst (λ x. Takes x (category_s file)) (sym there.0) (subst (Takes h.name) text h.taken))
+      h.entry.judgement ∙ ap (λ j. resolved_judgement h.entry.names (alone (entry_name h.judgement h.name) j)) text in (
+        (λ i. record { whole = whole i; judgement = judgement i }),
+        subst (λ x. Takes x (category_s file)) (sym there.0) (subst (Takes h.name) text h.taken),
+      )
 
   -- the types of a category without indices
   nothing_before : {A : Type 0} (before : List A) (c : A) (after : List A) → [] ≡ before ++ c ∷ after → ⊥
@@ -130,9 +128,10 @@ module _ (mods : List Module) (file : ℕ) (is : Is mods (codes "E") (abstract_e
         in_either order again (λ e. e ≡ entry_of_s file)
         (turns_are (λ e. e ≡ entry_of_s file) t (in_either new met (λ e. e ≡ entry_of_s file) each_new each_met) each_new)
         (λ e c. let h = (a.all e).0 c in (entry_is refl h.1).0)
-        where
+      where
         each_new : (e : FlatJudgement) → Contains new e → e ≡ entry_of_s file
         each_new e c = let h = (n.all e).0 c in (entry_is refl h.1.3).0
+
         each_met : (e : FlatJudgement) → Contains met e → e ≡ entry_of_s file
         each_met e c = let h = (m.all e).0 c in absurd (met_none h.1)
 

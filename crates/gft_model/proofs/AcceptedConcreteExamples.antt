@@ -1,7 +1,6 @@
 -- A worked example of a concrete module that is accepted, concrete EEng of E = {lincat S = {s : Str} ;}.
-use Rattle.std.proofs.Common.{◌≡◌, ap, sym, ◌∙◌, refl, ℕ, zero, suc, true, false, Bool, List, [], ◌∷◌, ◌++◌, Option, Some, None, subst, arith}
+use Rattle.std.proofs.Common.{◌≡◌, ap, sym, ◌∙◌, refl, ℕ, zero, suc, true, false, Bool, List, [], ◌∷◌, ◌++◌, Some, subst, arith}
 use Rattle.std.specs.Prelude.{codes, filter, Contains, slice_get, ◌||◌, if◌then◌else◌}
-use Rattle.gft_rules.specs.declared.refusal.Refusal.{Refusal}
 use Rattle.gft_syntax.specs.declared.flat.Flat.{Flat}
 use Rattle.gft_syntax.specs.declared.flat.FlatJudgement.{FlatJudgement}
 use Rattle.gft_syntax.specs.declared.judgement.Judgement.{Judgement}
@@ -9,7 +8,7 @@ use Rattle.gft_syntax.specs.declared.module.Module.{Module}
 use Rattle.gft_model.specs.Flats.{HasEntry, alone, whole_of}
 use Rattle.gft_model.specs.Import.{HasOrder, in_order, BreaksModule, in_header, twice, in_names, in_abstract, in_types, in_instance}
 use Rattle.gft_model.specs.JudgementOrder.{IsMet, typed_again}
-use Rattle.gft_model.specs.Modules.{Has, own, Declared, Writes, is_interface, is_incomplete}
+use Rattle.gft_model.specs.Modules.{Writes, is_interface, is_incomplete}
 use Rattle.gft_model.specs.Refusals.{Moment, IsAccepted}
 use Rattle.gft_model.specs.Resolution.{Names, resolved_judgement}
 use Rattle.gft_model.specs.TypeFaults.{BreaksTypes}
@@ -31,8 +30,8 @@ pub lincat_is : {Takes : List ℕ → Judgement → Type 0} {entry_name : Judgem
 lincat_is {entry_name = entry_name} {e = e} main h =
     let there = had mods (codes "EEng") e_eng (lincat_of (codes "S")) refl (λ n i e. cc) refl h.has in
     let text =
-        written mods (codes "EEng") e_eng (lincat_of (codes "S")) refl (λ n i e. cc) refl
-        (subst (λ d. Writes mods d h.judgement) there.1 h.writes) in
+    written mods (codes "EEng") e_eng (lincat_of (codes "S")) refl (λ n i e. cc) refl
+    (subst (λ d. Writes mods d h.judgement) there.1 h.writes) in
     let name : entry_name h.judgement h.name ≡ codes "S" = (λ i. entry_name (text i) (sym (one_of there.0) i)) ∙ main in
     record {
       names = h.entry.names;
@@ -71,7 +70,7 @@ again_are : (P : FlatJudgement → Type 0) (es : List FlatJudgement) → ((e : F
     (e : FlatJudgement) → Contains (typed_again es) e → P e
 again_are P es h =
     in_either _ _ P (kept_are P _ es h) (in_either _ _ P (kept_are P _ es h) (in_either _ _ P (kept_are P _ es h)
-        (in_either _ [] P (kept_are P _ es h) (λ e c. absurd (none_of c)))))
+    (in_either _ [] P (kept_are P _ es h) (λ e c. absurd (none_of c)))))
 
 order_is : {flat : Flat} {order again : List FlatJudgement} → HasOrder mods e_eng flat order again →
     (e : FlatJudgement) → Contains (order ++ typed_again again) e → IsLincat e
@@ -79,9 +78,10 @@ order_is (in_order {new} {met} {order} {again} n m t a) =
     in_either order (typed_again again) IsLincat
     (turns_are IsLincat t (in_either new met IsLincat each_new each_met) each_new)
     (again_are IsLincat again (λ e c. let h = (a.all e).0 c in lincat_is refl h.1))
-    where
+  where
     each_new : (e : FlatJudgement) → Contains new e → IsLincat e
     each_new e c = let h = (n.all e).0 c in lincat_is refl h.1.3
+
     each_met : (e : FlatJudgement) → Contains met e → IsLincat e
     each_met e c = let h = (m.all e).0 c in absurd (met_none h.1)
 
@@ -95,5 +95,5 @@ e_eng_accepted named_source at r (in_types {flat} {order} {again} {k} {e = e} {a
     let entry = order_is o e (got (order ++ typed_again again) k g) in
     no_entry_broken flat entry.names within r
     (subst (λ j. BreaksTypes flat (codes "EEng") lincat_entry.whole j within r) entry.judgement
-        (subst (λ w. BreaksTypes flat (codes "EEng") w e.judgement within r) entry.whole b))
+    (subst (λ w. BreaksTypes flat (codes "EEng") w e.judgement within r) entry.whole b))
 e_eng_accepted named_source at r (in_instance v o b) = no_instance_of (λ n i e. cc) b

@@ -1,8 +1,7 @@
 -- Worked examples of what is typed: the category of E and the lincat of EEng; and a lincat of a category that E lacks, which is
 -- refused where it is written and ignored where it is inherited.
-use Rattle.std.proofs.Common.{◌≡◌, ap, sym, ◌∙◌, refl, ℕ, zero, suc, true, false, Bool, List, [], ◌∷◌, length, Option, Some, None, subst, arith}
-use Rattle.std.proofs.lemmas.Slice.Eq.{bytes_eq-Decides}
-use Rattle.std.specs.Prelude.{codes, bytes_eq, Contains, slice_get, if◌then◌else◌}
+use Rattle.std.proofs.Common.{◌≡◌, ap, sym, ◌∙◌, refl, ℕ, true, false, Bool, List, [], ◌∷◌, Option, Some, None, subst, arith}
+use Rattle.std.specs.Prelude.{codes, bytes_eq, Contains, slice_get}
 use Rattle.gft_core.specs.declared.place.Place.{Place}
 use Rattle.gft_rules.specs.declared.rule.Rule.{Rule}
 use Rattle.gft_rules.specs.declared.rule.Rule.TheVariants as R
@@ -16,10 +15,9 @@ use Rattle.gft_syntax.specs.declared.module.Module.{Module}
 use Rattle.gft_syntax.specs.declared.module.Rest.TheVariants.{Inherits}
 use Rattle.gft_syntax.specs.declared.pattern.Pattern.{Pattern}
 use Rattle.gft_syntax.specs.declared.reference.PlacedName.{PlacedName}
-use Rattle.gft_syntax.specs.declared.reference.Whole.{Whole as WholeName}
 use Rattle.gft_syntax.specs.declared.term.Term.{Term}
-use Rattle.gft_model.specs.Flats.{IsConstructor, IsEntry, IsMeaning, IsOf, AreMeanings, HasEntry, alone, whole_of}
-use Rattle.gft_model.specs.JudgementOrder.{HasNew, HasTyped, Ignored, typed_name}
+use Rattle.gft_model.specs.Flats.{IsEntry, IsOf, AreMeanings, whole_of}
+use Rattle.gft_model.specs.JudgementOrder.{HasNew, HasTyped, Ignored}
 use Rattle.gft_model.specs.Modules.{Is, Has, declares, is_given, inherits, keeps, instantiates, HasNameable, Means, own_name, at_home, from_opened, for_bare, for_qualified, own, own_text, Declared, Writes, functor_of, header_mentions, inherited_of, inherited_name, judgements_of, opened_of, sort_of}
 use Rattle.gft_model.specs.NameFaults
 use Rattle.gft_model.specs.Refusals.{Moment}
@@ -64,8 +62,11 @@ module _ (mods : List Module) (M : List ℕ) (m : Module) (j : Judgement) (rest 
 -- the judgement of EEng under its whole name
 abbrev pub lincat_entry : FlatJudgement
 lincat_entry =
-    record { whole = whole_of (codes "S") (own (codes "EEng") 0); judgement =
-        resolved_judgement no_names (lincat_of (codes "S")) }
+    record {
+      whole = whole_of (codes "S") (own (codes "EEng") 0);
+      judgement =
+          resolved_judgement no_names (lincat_of (codes "S"));
+    }
 
 pub is_entry : IsEntry mods (codes "S") (own (codes "EEng") 0) (lincat_of (codes "S")) lincat_entry
 is_entry = record {
@@ -85,8 +86,13 @@ lincat_is_typed = (
   0 ∷ 0 ∷ [],
   refl,
   record {
-    name = codes "S"; declared = own (codes "EEng") 0; judgement = lincat_of (codes "S");
-    has = declares 0 refl refl (0, omega arith, refl); turn_is = refl; writes = own_text 0 refl refl; taken = not_ignored;
+    name = codes "S";
+    declared = own (codes "EEng") 0;
+    judgement = lincat_of (codes "S");
+    has = declares 0 refl refl (0, omega arith, refl);
+    turn_is = refl;
+    writes = own_text 0 refl refl;
+    taken = not_ignored;
     entry = is_entry;
   },
 )
@@ -121,7 +127,7 @@ t_is_unknown is_constructor =
 pub t_is_inherited : Has mods_of_t (codes "EUs") (codes "T") (own (codes "EEng") 0)
 t_is_inherited =
     is_given refl (inherits {h = Whole (named 2 21 (codes "EEng"))} (0, omega arith, refl) refl (declares 0 refl refl
-        (0, omega arith, refl)))
+    (0, omega arith, refl)))
 
 pub t_is_ignored : Ignored mods_of_t (header_mentions e_us.header) (codes "T") (lincat_of (codes "T"))
 t_is_ignored = (λ e. cc, named 2 17 (codes "E"), (0, omega arith, refl), not_of_e)
@@ -141,12 +147,12 @@ had_in_e_us (is_given e (instantiates f l h)) = let same = ap (λ m. functor_of 
 pub nothing_is_typed : (at : Moment) (e : FlatJudgement) → ¬ (HasTyped mods_of_t (header_mentions e_us.header) (codes "EUs") at e)
 nothing_is_typed at e h =
     let there =
-        had mods_of_t (codes "EEng") t_eng (lincat_of (codes "T")) refl (λ n i f. cc) refl (had_in_e_us h.has) in
+    had mods_of_t (codes "EEng") t_eng (lincat_of (codes "T")) refl (λ n i f. cc) refl (had_in_e_us h.has) in
     let text : h.judgement ≡ lincat_of (codes "T") =
-        written mods_of_t (codes "EEng") t_eng (lincat_of (codes "T")) refl (λ n i f. cc) refl
-        (subst (λ d. Writes mods_of_t d h.judgement) there.1 h.writes) in
+    written mods_of_t (codes "EEng") t_eng (lincat_of (codes "T")) refl (λ n i f. cc) refl
+    (subst (λ d. Writes mods_of_t d h.judgement) there.1 h.writes) in
     let ignored =
-        subst (λ x. Ignored mods_of_t (header_mentions e_us.header) x (lincat_of (codes "T"))) (one_of there.0) t_is_ignored in
+    subst (λ x. Ignored mods_of_t (header_mentions e_us.header) x (lincat_of (codes "T"))) (one_of there.0) t_is_ignored in
     h.taken (subst (Ignored mods_of_t (header_mentions e_us.header) h.name) (sym text) ignored)
 
 -- and nothing is broken in the names of EUs itself

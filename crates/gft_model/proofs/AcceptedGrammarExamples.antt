@@ -1,5 +1,5 @@
 -- A worked example of a resolved grammar of one category, that of abstract E = {cat S ;}.
-use Rattle.std.proofs.Common.{◌≡◌, ap, sym, ◌∙◌, refl, ℕ, zero, suc, true, false, Bool, List, [], ◌∷◌, Option, Some, None, subst, arith}
+use Rattle.std.proofs.Common.{◌≡◌, ap, sym, ◌∙◌, refl, ℕ, true, false, Bool, List, [], ◌∷◌, Option, Some, None, subst, arith}
 use Rattle.std.proofs.lemmas.Slice.Eq.{bytes_eq-Decides}
 use Rattle.std.specs.Prelude.{codes, bytes_eq, Contains, if◌then◌else◌}
 use Rattle.gft_syntax.specs.declared.flat.Flat.{Flat}
@@ -7,7 +7,7 @@ use Rattle.gft_syntax.specs.declared.flat.FlatJudgement.{FlatJudgement}
 use Rattle.gft_syntax.specs.declared.judgement.Judgement.{Judgement}
 use Rattle.gft_syntax.specs.declared.module.Module.{Module}
 use Rattle.gft_syntax.specs.declared.reference.Whole.{Whole}
-use Rattle.gft_model.specs.Flats.{IsConstructor, IsMeaning, AreMeanings, AreListed, HasOfPart, HasAbstract, HasSomewhere, RestsOn, itself, through, Part, categories, functions, parameters, opers, whole_of}
+use Rattle.gft_model.specs.Flats.{IsConstructor, IsMeaning, AreMeanings, AreListed, HasOfPart, HasAbstract, HasSomewhere, RestsOn, itself, through, Part, categories, parameters, opers, whole_of}
 use Rattle.gft_model.specs.Import.{IsView}
 use Rattle.gft_model.specs.Modules.{Is, HasNameable, Means, own_name, at_home, own, own_text, declares, Declared, Writes, header_name, mentions}
 use Rattle.gft_model.specs.Refusals.{Moment}
@@ -87,8 +87,14 @@ module _ (mods : List Module) (file : ℕ) (is : Is mods (codes "E") (abstract_e
   pub has_category : HasOfPart mods categories (codes "E") (3 ∷ 0 ∷ 0 ∷ []) (entry_of_s file)
   unfolding has_s
   has_category = record {
-    name = codes "S"; declared = here; judgement = category_s file; has = has_s.has; turn_is = refl; writes = has_s.writes;
-    taken = refl; entry = record { names = names; meanings = meanings; whole = refl; judgement = refl };
+    name = codes "S";
+    declared = here;
+    judgement = category_s file;
+    has = has_s.has;
+    turn_is = refl;
+    writes = has_s.writes;
+    taken = refl;
+    entry = record { names = names; meanings = meanings; whole = refl; judgement = refl };
   }
 
 -- THE RESOLVED GRAMMAR
@@ -98,7 +104,13 @@ mods = abstract_e 0 ∷ []
 
 abbrev pub flat : Flat
 flat = record {
-  name = Some (codes "E"); start = Some (codes "S"); cats = entry_of_s 0 ∷ []; funs = []; params = []; opers = []; concretes = [];
+  name = Some (codes "E");
+  start = Some (codes "S");
+  cats = entry_of_s 0 ∷ [];
+  funs = [];
+  params = [];
+  opers = [];
+  concretes = [];
   typed = [];
 }
 

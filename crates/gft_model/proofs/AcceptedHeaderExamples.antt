@@ -1,27 +1,22 @@
 -- Worked examples of headers that are accepted, those of E and of EEng, and of a linearization of a category that E lacks.
-use Rattle.std.proofs.Common.{◌≡◌, ap, sym, ◌∙◌, refl, ℕ, zero, suc, true, false, Bool, List, [], ◌∷◌, ◌++◌, length, Option, Some, None, subst, arith, ◌⊎◌, inl, inr}
-use Rattle.std.specs.Prelude.{codes, bytes_eq, Contains, slice_get, flat_map, map}
+use Rattle.std.proofs.Common.{◌≡◌, ap, sym, ◌∙◌, refl, ℕ, zero, suc, true, false, Bool, List, [], ◌∷◌, ◌++◌, Option, Some, subst, arith, ◌⊎◌, inl, inr}
+use Rattle.std.specs.Prelude.{codes, bytes_eq, Contains, slice_get, map}
 use Rattle.gft_core.specs.declared.place.Place.{Place}
 use Rattle.gft_rules.specs.declared.refusal.Refusal.{Refusal}
 use Rattle.gft_rules.specs.declared.rule.Rule.{Rule}
-use Rattle.gft_rules.specs.declared.rule.Rule.TheVariants as R
 use Rattle.gft_syntax.specs.declared.judgement.Judgement.{Judgement}
 use Rattle.gft_syntax.specs.declared.judgement.Judgement.TheVariants as J
 use Rattle.gft_syntax.specs.declared.judgement.Keyword.{Keyword}
-use Rattle.gft_syntax.specs.declared.judgement.Keyword.TheVariants as K
 use Rattle.gft_syntax.specs.declared.module.Header.{Header}
-use Rattle.gft_syntax.specs.declared.module.Header.TheVariants.{Abstract, Instance, Concrete}
-use Rattle.gft_syntax.specs.declared.module.Inherited.TheVariants.{Whole}
+use Rattle.gft_syntax.specs.declared.module.Header.TheVariants.{Instance}
 use Rattle.gft_syntax.specs.declared.module.Module.{Module}
 use Rattle.gft_syntax.specs.declared.module.Rest.{Rest}
-use Rattle.gft_syntax.specs.declared.module.Rest.TheVariants.{Own, Inherits}
+use Rattle.gft_syntax.specs.declared.module.Rest.TheVariants.{Own}
 use Rattle.gft_syntax.specs.declared.reference.PlacedName.{PlacedName}
-use Rattle.gft_syntax.specs.Parts.{Part, parts, judgement_parts, type_under}
-use Rattle.gft_model.specs.Flats.{IsOf}
 use Rattle.gft_model.specs.HeaderFaults
-use Rattle.gft_model.specs.Modules.{Is, Has, declares, is_given, Gives, inherits, keeps, instantiates, own, own_text, Declared, Writes, is_abstract, declared_names, functor_of, header_mentions, header_name, inherited_of, judgements_of, opened_of, placed_names}
-use Rattle.gft_model.specs.Refusals.{Moment, name_at}
-use Rattle.gft_model.proofs.AcceptedNamesExamples.{one_of, none_of, named, abstract_e, lincat_of, concrete_of, e_eng, mods}
+use Rattle.gft_model.specs.Modules.{Is, Has, declares, is_given, Gives, inherits, keeps, instantiates, own, own_text, Declared, Writes, is_abstract, declared_names, functor_of, inherited_of, judgements_of}
+use Rattle.gft_model.specs.Refusals.{Moment}
+use Rattle.gft_model.proofs.AcceptedNamesExamples.{one_of, none_of, named, abstract_e, lincat_of, e_eng, mods}
 
 -- a module that is no instance and has one judgement, inherits nothing and opens nothing
 abbrev pub only : Judgement → Rest
@@ -42,9 +37,9 @@ module _ (mods : List Module) (M : List ℕ) (m : Module) (j : Judgement) (rest 
     judgement_is : {i : Judgement} {k : ℕ} → slice_get (judgements_of m) k ≡ Some i → (k ≡ 0) × (i ≡ j)
     judgement_is {i} {k} g =
         of k (subst (λ r. slice_get (judgements_of (record { header = m.header; rest = r })) k ≡ Some i) rest g) where
-      of : (k : ℕ) → slice_get (j ∷ []) k ≡ Some i → (k ≡ 0) × (i ≡ j)
-      of zero h = (refl, cc)
-      of (suc l) h = cc
+          of : (k : ℕ) → slice_get (j ∷ []) k ≡ Some i → (k ≡ 0) × (i ≡ j)
+          of zero h = (refl, cc)
+          of (suc l) h = cc
 
     -- what it has under its names
     pub had : {x : List ℕ} {d : Declared} → Has mods M x d → Contains (declared_names j) x × (d ≡ own M 0)

@@ -1,5 +1,5 @@
 -- A worked example of an import that is accepted: that of the file E.gf, which is abstract E = {cat S ;}; and what it gives.
-use Rattle.std.proofs.Common.{◌≡◌, ap, sym, ◌∙◌, refl, ℕ, zero, suc, true, false, Bool, List, [], ◌∷◌, ◌++◌, length, Option, Some, None, subst, arith}
+use Rattle.std.proofs.Common.{◌≡◌, ap, sym, refl, ℕ, zero, suc, false, List, [], ◌∷◌, length, Some, None, subst, arith}
 use Rattle.std.specs.FinMap.{get}
 use Rattle.std.specs.Prelude.{codes, Contains, slice_get, ◌||◌, ◌<◌}
 use Rattle.std.specs.Str.{chars, is_utf8}
@@ -10,7 +10,6 @@ use Rattle.ucd_derived.specs.XidContinueRanges.{xid_continue_ranges}
 use Rattle.ucd_table.specs.Rows.{in_ranges}
 use Rattle.gft_io.specs.Outside.{Files}
 use Rattle.gft_pmcfg.specs.declared.signature.Abstract.{Abstract as AbstractSyntax}
-use Rattle.gft_rules.specs.declared.refusal.Refusal.{Refusal}
 use Rattle.gft_syntax.specs.declared.flat.Flat.{Flat}
 use Rattle.gft_syntax.specs.declared.module.Module.{Module}
 use Rattle.gft_model.specs.AbstractFaults.{its_context, no_context}
@@ -18,13 +17,13 @@ use Rattle.gft_model.specs.AbstractParts.{IsAbstractPart}
 use Rattle.gft_model.specs.Import.{IsView, is_named, BreaksModule, BreaksLoaded, in_module, too_many_categories, in_language, abstracts_differ, BreaksImport, in_loading, once_loaded, HasLanguage, of_module, of_its_source, GivesPart, abstract_part}
 use Rattle.gft_model.specs.Loading
 use Rattle.gft_model.specs.Modules.{is_interface, is_incomplete, module_named}
-use Rattle.gft_model.specs.Refusals.{Moment, IsAccepted}
+use Rattle.gft_model.specs.Refusals.{IsAccepted}
 use Rattle.gft_model.specs.Source.{Tokens}
 use Rattle.gft_model.specs.Sessions.{source, IsImported}
 use Rattle.gft_model.specs.States.{Loaded}
-use Rattle.gft_model.proofs.AcceptedAbstractExamples.{category_s, entry_of_s, e_accepted}
+use Rattle.gft_model.proofs.AcceptedAbstractExamples.{entry_of_s, e_accepted}
 use Rattle.gft_model.proofs.AcceptedGrammarExamples.{mods, flat, is_view}
-use Rattle.gft_model.proofs.AcceptedNamesExamples.{one_of, none_of, abstract_e}
+use Rattle.gft_model.proofs.AcceptedNamesExamples.{one_of, abstract_e}
 use Rattle.gft_model.proofs.AcceptedSlicesExamples.{tokens, spells_e, no_slice_fault}
 use Rattle.gft_model.proofs.FlatLaws.{flat_once}
 use Rattle.gft_model.proofs.LoadingLaws.{named_once}
@@ -39,7 +38,6 @@ has_tokens file = record { is_text = (text, (refl, refl)); spelled = refl; range
 
 pub is_source : (file : ℕ) → Loading.IsSource file text (abstract_e file)
 is_source file = (tokens file, has_tokens file, no_slice_fault file, spells_e file)
-
 
 -- LOADING
 
@@ -57,8 +55,8 @@ module _ (files : Files) (has : get files file_name ≡ Some text) where
   loads =
       Loading.source_loaded (codes "E", refl)
       (Loading.loaded_now (none_loaded (codes "E")) (omega arith)
-          (Loading.complete {t = record { files = file_name ∷ []; modules = [] }} (has, omega arith)
-              (is_source 0) refl Loading.no_more))
+      (Loading.complete {t = record { files = file_name ∷ []; modules = [] }} (has, omega arith)
+      (is_source 0) refl Loading.no_more))
       Loading.none_named
 
 -- WHAT IS LOADED

@@ -1,7 +1,6 @@
 -- A worked example of a language that is accepted: that of EEng, with its resolved grammar as it is typed.
-use Rattle.std.proofs.Common.{◌≡◌, ap, sym, ◌∙◌, refl, ℕ, zero, suc, true, false, List, [], ◌∷◌, length, Option, Some, None, subst, arith}
+use Rattle.std.proofs.Common.{◌≡◌, ap, sym, ◌∙◌, refl, ℕ, zero, suc, true, false, List, [], ◌∷◌, length, Option, Some, subst, arith}
 use Rattle.std.specs.Prelude.{codes, slice_get, Contains}
-use Rattle.gft_rules.specs.declared.refusal.Refusal.{Refusal}
 use Rattle.gft_syntax.specs.declared.ctype.CType.{CType, out-CType}
 use Rattle.gft_syntax.specs.declared.ctype.CType.TheOpen as C
 use Rattle.gft_syntax.specs.declared.ctype.CType.TheViews.{out-roll-CType}
@@ -22,7 +21,7 @@ use Rattle.gft_model.specs.Items.{Item, lincat}
 use Rattle.gft_model.specs.JudgementTyping.{items, literal_type, HasTyping, parameter, undefined_parameter, named_type, typed_oper, undefined_oper, found_type, found_oper, of_overload, linearization_type, linearization, IsTyped}
 use Rattle.gft_model.specs.Languages.{lin_type}
 use Rattle.gft_model.specs.Outcomes.{Outcome}
-use Rattle.gft_model.specs.Refusals.{Moment, IsAccepted}
+use Rattle.gft_model.specs.Refusals.{IsAccepted}
 use Rattle.gft_model.specs.Resolution.{resolved}
 use Rattle.gft_model.specs.TypeForms.{no_value}
 use Rattle.gft_model.proofs.AcceptedAbstractExamples.{entry_of_s}
@@ -35,7 +34,12 @@ use Rattle.gft_model.proofs.TypeLaws.{type-once}
 -- the one category of E, and the one lincat of EEng
 abbrev pub untyped : Flat
 untyped = record {
-  name = Some (codes "E"); start = Some (codes "S"); cats = entry_of_s 1 ∷ []; funs = []; params = []; opers = [];
+  name = Some (codes "E");
+  start = Some (codes "S");
+  cats = entry_of_s 1 ∷ [];
+  funs = [];
+  params = [];
+  opers = [];
   concretes = record { name = codes "EEng"; judgements = lincat_entry ∷ [] } ∷ [];
   typed = [];
 }

@@ -1,6 +1,6 @@
 -- A worked example of an import of a language that is accepted: that of EEng.gf, which is concrete EEng of
 -- E = {lincat S = {s : Str} ;}, beside E.gf, which is abstract E = {cat S ;}; and what it gives.
-use Rattle.std.proofs.Common.{◌≡◌, ap, sym, ◌∙◌, refl, ℕ, zero, suc, true, false, List, [], ◌∷◌, length, Option, Some, None, subst, arith}
+use Rattle.std.proofs.Common.{◌≡◌, ap, sym, ◌∙◌, refl, ℕ, zero, suc, true, false, List, [], ◌∷◌, length, Some, None, subst, arith}
 use Rattle.std.specs.FinMap.{get}
 use Rattle.std.specs.Prelude.{codes, bytes_eq, Contains, slice_get, ◌<◌}
 use Rattle.std.specs.Str.{chars, is_utf8}
@@ -27,7 +27,7 @@ use Rattle.gft_model.proofs.AcceptedAbstractExamples.{entry_of_s, e_accepted}
 use Rattle.gft_model.proofs.AcceptedConcreteExamples.{module_is_complete, e_eng_accepted}
 use Rattle.gft_model.proofs.AcceptedImportExamples.{text, is_source, e_syntax}
 use Rattle.gft_model.proofs.AcceptedLanguageExamples.{untyped, typings, are_typings, compiles}
-use Rattle.gft_model.proofs.AcceptedNamesExamples.{one_of, none_of, abstract_e, e_eng, mods}
+use Rattle.gft_model.proofs.AcceptedNamesExamples.{one_of, abstract_e, e_eng, mods}
 use Rattle.gft_model.proofs.AcceptedTextExamples.{tokens, spells_e_eng, no_slice_fault}
 use Rattle.gft_model.proofs.AcceptedViewExamples.{is_view, has_language}
 use Rattle.gft_model.proofs.FlatLaws.{flat_once, typings_once}
@@ -62,13 +62,13 @@ module _ (files : Files) (has : get files file_name ≡ Some language_text) (has
   loads =
       Loading.source_loaded (codes "EEng", refl)
       (Loading.loaded_now (none_loaded [] (codes "EEng")) (omega arith)
-          (Loading.complete {t = record { files = file_name ∷ codes "E.gf" ∷ []; modules = abstract_e 1 ∷ [] }} (has, omega arith)
-              language_is_source refl
-              (Loading.next_loaded not_waiting
-                  (Loading.loaded_now (none_loaded (file_name ∷ []) (codes "E")) (omega arith)
-                      (Loading.complete {t = record { files = file_name ∷ codes "E.gf" ∷ []; modules = [] }} (has_e, omega arith)
-                          (is_source 1) refl Loading.no_more))
-                  Loading.no_more)))
+      (Loading.complete {t = record { files = file_name ∷ codes "E.gf" ∷ []; modules = abstract_e 1 ∷ [] }} (has, omega arith)
+      language_is_source refl
+      (Loading.next_loaded not_waiting
+      (Loading.loaded_now (none_loaded (file_name ∷ []) (codes "E")) (omega arith)
+      (Loading.complete {t = record { files = file_name ∷ codes "E.gf" ∷ []; modules = [] }} (has_e, omega arith)
+      (is_source 1) refl Loading.no_more))
+      Loading.no_more)))
       Loading.none_named
 
 -- WHAT IS LOADED
@@ -103,7 +103,7 @@ no_language_broken {at = at} {r = r} same (of_module {n = n} {flat = f} {typings
     let flats = view_once module_there v in
     let types = typings_once untyped ts typings (subst (λ g. AreTypings g ts) flats t) are_typings in
     compiles at r (subst (λ x. BreaksCompiling (record untyped { typed = typings }) x at r) name
-        (subst (λ g. BreaksCompiling g n.name at r) (λ i. record (flats i) { typed = types i }) b))
+    (subst (λ g. BreaksCompiling g n.name at r) (λ i. record (flats i) { typed = types i }) b))
 
 few_categories : {file : List ℕ} {m : Module} {f : Flat} → Contains (file_name ∷ []) file →
     module_named mods (Loading.base_of file) ≡ Some m → IsView mods m f → 16384 < length f.cats → ⊥

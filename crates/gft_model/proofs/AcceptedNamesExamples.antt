@@ -1,32 +1,27 @@
 -- A worked example of names that are accepted: abstract E = {cat S ;}, concrete EEng of E = {lincat S = {s : Str} ;}.
-use Rattle.std.proofs.Common.{◌≡◌, ap, sym, ◌∙◌, refl, ℕ, zero, suc, true, false, Bool, List, [], ◌∷◌, length, Option, Some, None, subst, arith, ◌⊎◌, inl, inr}
-use Rattle.std.specs.Prelude.{codes, bytes_eq, flat_map, option_to_list, Contains, slice_get}
+use Rattle.std.proofs.Common.{◌≡◌, ap, sym, ◌∙◌, refl, ℕ, zero, suc, Bool, List, [], ◌∷◌, Option, subst, arith, ◌⊎◌, inl, inr}
+use Rattle.std.specs.Prelude.{codes, flat_map, option_to_list, Contains}
 use Rattle.gft_core.specs.declared.place.Place.{Place}
-use Rattle.gft_rules.specs.declared.refusal.Refusal.{Refusal}
 use Rattle.gft_rules.specs.declared.rule.Rule.{Rule}
-use Rattle.gft_rules.specs.declared.rule.Rule.TheVariants as R
 use Rattle.gft_syntax.specs.declared.judgement.Judgement.{Judgement}
 use Rattle.gft_syntax.specs.declared.judgement.Judgement.TheVariants as J
-use Rattle.gft_syntax.specs.declared.judgement.Keyword.{Keyword}
 use Rattle.gft_syntax.specs.declared.judgement.Keyword.TheVariants as K
 use Rattle.gft_syntax.specs.declared.module.Header.TheVariants.{Abstract, Concrete}
 use Rattle.gft_syntax.specs.declared.module.Module.{Module}
 use Rattle.gft_syntax.specs.declared.module.Rest.TheVariants.{Own}
 use Rattle.gft_syntax.specs.declared.pattern.Pattern.{Pattern}
 use Rattle.gft_syntax.specs.declared.reference.PlacedName.{PlacedName}
-use Rattle.gft_syntax.specs.declared.reference.Reference.TheVariants.{Written}
 use Rattle.gft_syntax.specs.declared.term.Local.TheVariants.{Label}
 use Rattle.gft_syntax.specs.declared.term.Sort.{Sort}
 use Rattle.gft_syntax.specs.declared.term.Sort.TheVariants as Sort-V
 use Rattle.gft_syntax.specs.declared.term.Term.{Term, roll-Term, out-Term}
 use Rattle.gft_syntax.specs.declared.term.Term.TheOpen as T
 use Rattle.gft_syntax.specs.declared.term.Term.TheViews.{out-roll-Term}
-use Rattle.gft_syntax.specs.Parts.{Part, parts, patterns_in, judgement_parts, type_under}
+use Rattle.gft_syntax.specs.Parts.{Part, parts, patterns_in, judgement_parts}
 use Rattle.gft_syntax.specs.Terms.{Layer}
 use Rattle.gft_model.specs.Flats.{IsOf}
 use Rattle.gft_model.specs.Modules.{declares, own, own_text, header_mentions, judgements_of, placed_names}
 use Rattle.gft_model.specs.NameFaults
-use Rattle.gft_model.specs.Refusals.{name_at}
 use Rattle.gft_model.specs.Resolution.{Locals}
 
 -- the only element of a list of one, and that an empty list has none
@@ -73,8 +68,13 @@ mods = abstract_e 1 ∷ e_eng ∷ []
 -- E has the category
 pub is_of_e : IsOf mods (codes "E") (codes "S") (lincat_of (codes "S"))
 is_of_e = (
-  K.Lincat, own (codes "E") 0, J.Cat (named 1 19 (codes "S")) [], refl,
-  declares 0 refl refl (0, omega arith, refl), own_text 0 refl refl, refl,
+  K.Lincat,
+  own (codes "E") 0,
+  J.Cat (named 1 19 (codes "S")) [],
+  refl,
+  declares 0 refl refl (0, omega arith, refl),
+  own_text 0 refl refl,
+  refl,
 )
 
 -- Str is neither Ints nor Predef
@@ -143,7 +143,7 @@ module _ (is_constructor : List ℕ → Bool) where
       let abstract = one_of a in
       subst (λ (B : PlacedName). IsOf mods B.name n.name j) abstract
       (subst (λ (x : PlacedName). IsOf mods (codes "E") x.name j) name (subst (IsOf mods (codes "E")
-          (codes "S")) judgement is_of_e))
+      (codes "S")) judgement is_of_e))
 
   -- so nothing is broken in its names
   pub no_name_broken : (rule : Rule) (n : PlacedName) (ms : List PlacedName) →

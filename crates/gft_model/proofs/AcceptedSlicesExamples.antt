@@ -1,5 +1,5 @@
 -- A worked example of tokens in which nothing is broken: those of abstract E = {cat S ;}.
-use Rattle.std.proofs.Common.{◌≡◌, ap, sym, ◌∙◌, refl, ℕ, zero, suc, true, false, Bool, List, [], ◌∷◌, ◌++◌, length, Option, Some, None, subst, arith, ◌⊎◌, inl, inr, length-append}
+use Rattle.std.proofs.Common.{◌≡◌, ap, sym, ◌∙◌, refl, ℕ, zero, suc, true, false, Bool, List, [], ◌∷◌, ◌++◌, length, Option, Some, None, subst, arith}
 use Rattle.std.proofs.lemmas.List.{append-nil}
 use Rattle.std.specs.Prelude.{codes, map, nat_lt, ◌||◌, Contains, IsUtf8, encode_utf8_all}
 use Rattle.std.specs.Option.{is_some}
@@ -30,7 +30,7 @@ use Rattle.gft_model.specs.ModuleGrammar.{mark_of, other, slices_of, SpellsSlice
 use Rattle.gft_model.specs.Refusals.{Moment}
 use Rattle.gft_model.specs.Source.{form_of}
 use Rattle.gft_model.specs.SyntaxFaults
-use Rattle.gft_model.proofs.AcceptedNamesExamples.{one_of, none_of, abstract_e}
+use Rattle.gft_model.proofs.AcceptedNamesExamples.{none_of, abstract_e}
 use Rattle.gft_model.proofs.SliceLaws.{slice-once}
 
 -- WORDS OUT OF THE PROFILE
@@ -140,8 +140,8 @@ opens_once (t ∷ h) (u ∷ k) {l} {m} {b} {c} n o p q e =
     let tails : h ++ l ∷ b ≡ k ++ m ∷ c = cc in
     let heads : t ≡ u = cc in
     let rest =
-        opens_once h k (λ v d. n v (suc d.0, omega (arith, d.1), d.2))
-            (λ v d. o v (suc d.0, omega (arith, d.1), d.2)) p q tails in
+    opens_once h k (λ v d. n v (suc d.0, omega (arith, d.1), d.2))
+    (λ v d. o v (suc d.0, omega (arith, d.1), d.2)) p q tails in
     ((λ i. heads i ∷ rest.0 i), rest.1, rest.2)
 
 pub standing : (held rest : Tokens) (t : SourceToken) → Contains (held ++ t ∷ rest) t
@@ -188,7 +188,7 @@ module _ (file : ℕ) where
   spells_e =
       a_module (plain_module an_abstract refl refl) refl
       (own_body nothing_before (closed_body {ss = category_tokens ∷ [] ∷ []} refl refl (slice spells_category
-          (empty_slice no_slice))))
+      (empty_slice no_slice))))
       at_once
 
   -- a header by itself is in the grammar
@@ -271,6 +271,7 @@ module _ (file : ℕ) where
     from : {k : SyntaxFaults.SliceKind} {ts : Tokens} → kind ≡ k → s ≡ ts → SyntaxFaults.IsDerivable k ts →
         SyntaxFaults.IsDerivable kind s
     from {k} e f d = subst (λ l. SyntaxFaults.IsDerivable l s) (sym e) (subst (SyntaxFaults.IsDerivable k) (sym f) d)
+
     of : IsSlice kind s → SyntaxFaults.IsDerivable kind s
     of (of_header e f) = from e f header_alone
     of (of_category e f) = from e f (SyntaxFaults.a_judgement spells_category)
@@ -286,7 +287,7 @@ module _ (file : ℕ) where
       let first = keyword_of h in
       let there = subst (λ b. SpellsSlice b category_tokens k j) first (subst (λ ts. SpellsSlice before ts k j) f d) in
       none_of (subst (λ i. Contains (map (λ (p : Part Term). p.part) (judgement_parts i)) e)
-          (slice-once there spells_category).1 c)
+      (slice-once there spells_category).1 c)
   no_terms (of_nothing l h f) d c = spells_some d f
   no_terms (of_end h f) d c = cc
 

@@ -19,7 +19,7 @@ use Rattle.gft_syntax.specs.declared.token.Symbol.TheVariants as S
 use Rattle.gft_syntax.specs.declared.token.TokenForm.{TokenForm}
 use Rattle.gft_syntax.specs.declared.token.TokenForm.TheVariants.{Identifier, Reserved, Symbol}
 use Rattle.gft_syntax.specs.Parts.{Part, judgement_parts, height}
-use Rattle.gft_model.specs.Grammar.{Tokens, Is, Spells, term, exp, local, category_name, listed}
+use Rattle.gft_model.specs.Grammar.{Tokens, term, exp, local}
 use Rattle.gft_model.specs.ModuleGrammar.{Mark, opening, closing_brace, closing, let_word, in_word, semicolon, other, mark_of, slices_of, SpellsSlice, SpellsSlices, with_keyword, lincat, SpellsModule, a_module, module_of, a_concrete, own_body, nothing_before, closed_body, no_slice, empty_slice, slice, at_once}
 use Rattle.gft_model.specs.Refusals.{Moment}
 use Rattle.gft_model.specs.SyntaxFaults
@@ -57,7 +57,7 @@ tokens = header_tokens ++ brace ∷ body_tokens
 at_exp : {ts rest : Tokens} {e : Term} → Rules.Spells (term Rules.exp6) ts e rest → Rules.Spells (term exp) ts e rest
 at_exp d =
     Rules.tighter_term Rules.below_exp (Rules.tighter_term Rules.below_exp1 (Rules.tighter_term Rules.below_exp2
-        (Rules.tighter_term Rules.below_exp3 (Rules.tighter_term Rules.below_exp4 (Rules.tighter_term Rules.below_exp5 d)))))
+    (Rules.tighter_term Rules.below_exp3 (Rules.tighter_term Rules.below_exp4 (Rules.tighter_term Rules.below_exp5 d)))))
 
 spells_label : Rules.Spells local (token 0 35 (Identifier (codes "s")) ∷ token 0 37 (Symbol S.Colon) ∷ token 0 39 (Reserved W.Str)
     ∷ token 0 42 (Symbol S.RightBrace) ∷ []) (Label (codes "s" ∷ []) (roll-Term str_layer))
@@ -197,6 +197,7 @@ derivable {kind} {s} i = of i where
   from : {k : SyntaxFaults.SliceKind} {ts : Tokens} → kind ≡ k → s ≡ ts → SyntaxFaults.IsDerivable k ts →
       SyntaxFaults.IsDerivable kind s
   from {k} e f d = subst (λ l. SyntaxFaults.IsDerivable l s) (sym e) (subst (SyntaxFaults.IsDerivable k) (sym f) d)
+
   of : IsSlice kind s → SyntaxFaults.IsDerivable kind s
   of (of_header e f) = from e f header_alone
   of (of_lincat e f) = from e f (SyntaxFaults.a_judgement spells_lincat)
@@ -213,7 +214,7 @@ low : {s : Tokens} {before : Option Keyword} {b : Bool} {k : Keyword} {j : Judge
 low (of_header h f) d c l = cc
 low {before = before} {k = k} {j = j} {e = e} (of_lincat h f) d c l =
     let there =
-        subst (λ b. SpellsSlice b lincat_tokens k j) (keyword_of h) (subst (λ ts. SpellsSlice before ts k j) f d) in
+    subst (λ b. SpellsSlice b lincat_tokens k j) (keyword_of h) (subst (λ ts. SpellsSlice before ts k j) f d) in
     let judgement = (slice-once there spells_lincat).1 in
     let type = one_of (subst (λ i. Contains (map (λ (p : Part Term). p.part) (judgement_parts i)) e) judgement c) in
     let two = sym (ap height type) ∙ type_height in omega (arith, l, two)

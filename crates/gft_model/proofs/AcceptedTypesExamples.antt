@@ -1,5 +1,5 @@
 -- A worked example of a judgement whose types are accepted: lincat S = {s : Str} of EEng.
-use Rattle.std.proofs.Common.{◌≡◌, ap, sym, ◌∙◌, refl, ℕ, zero, suc, true, false, Bool, List, [], ◌∷◌, Option, Some, None, subst, arith, ◌⊎◌, inl, inr}
+use Rattle.std.proofs.Common.{◌≡◌, ap, sym, ◌∙◌, refl, ℕ, zero, suc, true, false, List, [], ◌∷◌, Some, None, subst, ◌⊎◌, inl, inr}
 use Rattle.std.specs.List.{list_all}
 use Rattle.std.specs.Prelude.{codes, Contains, slice_get}
 use Rattle.gft_core.specs.declared.place.Place.{Place}
@@ -9,9 +9,7 @@ use Rattle.gft_syntax.specs.declared.ctype.CType.{CType, out-CType}
 use Rattle.gft_syntax.specs.declared.ctype.CType.TheOpen as C
 use Rattle.gft_syntax.specs.declared.ctype.CType.TheViews.{out-roll-CType}
 use Rattle.gft_syntax.specs.declared.flat.Flat.{Flat}
-use Rattle.gft_syntax.specs.declared.judgement.Judgement.{Judgement}
 use Rattle.gft_syntax.specs.declared.judgement.Judgement.TheVariants as J
-use Rattle.gft_syntax.specs.declared.reference.Reference.TheVariants.{Whole as WholeName}
 use Rattle.gft_syntax.specs.declared.reference.Whole.{Whole}
 use Rattle.gft_syntax.specs.declared.linear.LinTerm.{LinTerm}
 use Rattle.gft_syntax.specs.declared.pattern.Pattern.{Pattern}
@@ -31,7 +29,7 @@ use Rattle.gft_model.specs.Resolution.{Names, Open, resolve_step, resolved, reso
 use Rattle.gft_model.specs.Resting.{answers_to}
 use Rattle.gft_model.specs.TypeFaults
 use Rattle.gft_model.specs.TypeForms.{form, str_type, sort_type, record_type, no_value}
-use Rattle.gft_model.specs.TypingSites.{StandsIn, at_site, within_it, Leads, to_mode, to_type_of, to_overload, to_argument, to_type, to_term, after_locals, under_pattern, in_body, Way, in_mode, term_mode, term_sites, a_pattern, given, Mode, as_type, Role, data_wanted, Node, a_term, Site, judgement_sites, type_site, sites_of, HasOverload, has_overload}
+use Rattle.gft_model.specs.TypingSites.{StandsIn, at_site, within_it, Leads, to_mode, to_type_of, to_overload, to_argument, to_type, to_term, after_locals, under_pattern, in_body, Way, in_mode, term_mode, term_sites, a_pattern, given, Mode, as_type, Role, data_wanted, Node, a_term, Site, type_site, sites_of, HasOverload, has_overload}
 use Rattle.gft_model.proofs.AcceptedEntriesExamples.{lincat_entry}
 use Rattle.gft_model.proofs.AcceptedNamesExamples.{one_of, none_of, named, lincat_of, str_layer, type_layer}
 use Rattle.gft_model.proofs.Computing.{form-roll}
@@ -92,8 +90,13 @@ module _ (flat : Flat) where
     of : (k : ℕ) → slice_get (type_site data_wanted e ∷ []) k ≡ Some s → IsSite s.node m s.role
     of zero i =
         let same : s ≡ type_site data_wanted e = cc in
-        record { term = e; node = ap (λ (t : Site). t.node) same; mode = mode_is l (ap (λ (t : Site). t.way) same);
-            role = ap (λ (t : Site). t.role) same; layer = f }
+        record {
+          term = e;
+          node = ap (λ (t : Site). t.node) same;
+          mode = mode_is l (ap (λ (t : Site). t.way) same);
+          role = ap (λ (t : Site). t.role) same;
+          layer = f;
+        }
     of (suc j) i = cc
 
   parts_of : {n : Node} {m : Mode} {e : Term} {d : Layer} → n ≡ a_term e → m ≡ as_type sort_type → form e ≡ d →
@@ -116,6 +119,7 @@ module _ (flat : Flat) where
   form_is {e = e} {d = d} h f = let i = stands h in of i.layer (same i.node) where
     same : {t : Term} → a_term e ≡ a_term t → e ≡ t
     same g = cc
+
     of : {t : Term} → (form t ≡ type_layer) ⊎ (form t ≡ str_layer) → e ≡ t → (type_layer ≡ d) ⊎ (str_layer ≡ d)
     of (inl g) h = inl (sym g ∙ ap form (sym h) ∙ f)
     of (inr g) h = inr (sym g ∙ ap form (sym h) ∙ f)
@@ -191,7 +195,7 @@ module _ (flat : Flat) where
   no_term {Γ} {e = e} h (TypeFaults.found_does_not_fit {A} g p b n) =
       let type = given_sort (mode_there h) g in
       let checks =
-          checks_sort {Γ = Γ} (type_there h).1 (no_first h) (subst (λ S. passes (form e) (out-CType S) ≡ false) type p) in
+      checks_sort {Γ = Γ} (type_there h).1 (no_first h) (subst (λ S. passes (form e) (out-CType S) ≡ false) type p) in
       n checks.0 (subst (λ S. Checks (items flat) Γ e S checks.0) (sym type) checks.1)
   no_term h (TypeFaults.own_type_does_not_fit f g c n) = let role = (stands h).role in cc
   no_term h (TypeFaults.table_over_another g t (TypeFaults.with_branches f) b n) = no_form h f (λ j. cc) (λ j. cc)
@@ -247,4 +251,4 @@ module _ (flat : Flat) where
   no_entry_broken names at r b =
       no_type_broken (codes "EEng") lincat_entry.whole (codes "S") at r
       (subst (λ t. TypeFaults.BreaksTypes flat (codes "EEng") lincat_entry.whole (J.Lincat (named 0 30 (codes "S") ∷ []) t) at r)
-          (type_resolved names) b)
+      (type_resolved names) b)

@@ -1,17 +1,16 @@
 -- A worked example of the resolved grammar of a language, that of EEng: the category of E and the lincat of EEng.
-use Rattle.std.proofs.Common.{◌≡◌, ap, sym, ◌∙◌, refl, ℕ, zero, suc, true, false, List, [], ◌∷◌, Option, Some, None, subst, arith, ◌⊎◌, inl, inr}
+use Rattle.std.proofs.Common.{◌≡◌, ap, sym, ◌∙◌, refl, ℕ, zero, suc, List, [], ◌∷◌, Some, None, subst, arith, ◌⊎◌, inl, inr}
 use Rattle.std.specs.Prelude.{codes, Contains}
-use Rattle.gft_syntax.specs.declared.flat.Flat.{Flat}
 use Rattle.gft_syntax.specs.declared.flat.FlatConcrete.{FlatConcrete}
 use Rattle.gft_syntax.specs.declared.flat.FlatJudgement.{FlatJudgement}
 use Rattle.gft_syntax.specs.declared.judgement.Judgement.TheVariants as J
 use Rattle.gft_syntax.specs.declared.module.Module.{Module}
 use Rattle.gft_model.specs.Flats.{AreListed, HasOfPart, HasAbstract, HasSomewhere, HasLinearization, RestsOn, itself, through, Part, categories, functions, parameters, opers, part_of}
-use Rattle.gft_model.specs.Import.{IsView, HasLanguage, of_module, BreaksLoaded}
+use Rattle.gft_model.specs.Import.{IsView, HasLanguage, of_module}
 use Rattle.gft_model.specs.Modules.{Is, own, own_text, declares, Writes, header_name, mentions}
 use Rattle.gft_model.specs.Refusals.{Moment}
 use Rattle.gft_model.proofs.AcceptedAbstractExamples.{entry_of_s, entry_is}
-use Rattle.gft_model.proofs.AcceptedConcreteExamples.{IsLincat, lincat_is}
+use Rattle.gft_model.proofs.AcceptedConcreteExamples.{lincat_is}
 use Rattle.gft_model.proofs.AcceptedEntriesExamples.{no_names, lincat_entry, is_entry}
 use Rattle.gft_model.proofs.AcceptedGrammarExamples.{has_category}
 use Rattle.gft_model.proofs.AcceptedHeaderExamples.{had, written}
@@ -32,8 +31,8 @@ of_e_eng : {p : Part} {at : Moment} {e : FlatJudgement} → HasOfPart mods p (co
 of_e_eng {p} h =
     let there = had mods (codes "EEng") e_eng (lincat_of (codes "S")) refl (λ n i e. cc) refl h.has in
     let text =
-        written mods (codes "EEng") e_eng (lincat_of (codes "S")) refl (λ n i e. cc) refl
-        (subst (λ d. Writes mods d h.judgement) there.1 h.writes) in
+    written mods (codes "EEng") e_eng (lincat_of (codes "S")) refl (λ n i e. cc) refl
+    (subst (λ d. Writes mods d h.judgement) there.1 h.writes) in
     let wrong : None ≡ Some p = ap (part_of h.name) (sym text) ∙ h.taken in cc
 
 of_abstract : {p : Part} {at : Moment} {e : FlatJudgement} → HasAbstract mods p chosen at e →
@@ -84,8 +83,12 @@ lists_one {P} f first has only = record {
 -- the lincat is of the category
 has_lincat : HasLinearization mods (codes "EEng") (3 ∷ 0 ∷ 0 ∷ []) lincat_entry
 has_lincat = record {
-  name = codes "S"; declared = own (codes "EEng") 0; judgement = lincat_of (codes "S");
-  has = declares 0 refl refl (0, omega arith, refl); turn_is = refl; writes = own_text 0 refl refl;
+  name = codes "S";
+  declared = own (codes "EEng") 0;
+  judgement = lincat_of (codes "S");
+  has = declares 0 refl refl (0, omega arith, refl);
+  turn_is = refl;
+  writes = own_text 0 refl refl;
   taken = (e_eng, named 0 18 (codes "E"), refl, (0, omega arith, refl), is_of_e);
   entry = is_entry;
 }
@@ -94,8 +97,8 @@ only_lincat : (at : Moment) (e : FlatJudgement) → HasLinearization mods (codes
 only_lincat at e h =
     let there = lincat_is refl h in
     let judgement : e.judgement ≡ lincat_entry.judgement =
-        there.judgement ∙ ap (J.Lincat (named 0 30 (codes "S") ∷ [])) (type_resolved there.names ∙ sym
-            (type_resolved no_names)) in
+    there.judgement ∙ ap (J.Lincat (named 0 30 (codes "S") ∷ [])) (type_resolved there.names ∙ sym
+    (type_resolved no_names)) in
     sym (λ i. record { whole = there.whole i; judgement = judgement i })
 
 pub is_view : IsView mods e_eng untyped

@@ -226,7 +226,7 @@ does_once (Does.unknown_name {g} {name} e i) (Does.informs_of {g = h} f j) m n =
 does_once (Does.unknown_name e i) (Does.unknown_name f j) m n = refl
 does_once {held} (Does.writes {file} d l) (Does.writes e k) m n =
     ap (λ b. replying (record held { files = insert held.files file b })
-        ((codes "wrote " ++ file ++ codes " " ++ decimal (length b) ++ codes " bytes") ∷ [])) (file_once d e)
+    ((codes "wrote " ++ file ++ codes " " ++ decimal (length b) ++ codes " bytes") ∷ [])) (file_once d e)
 does_once (Does.writes d l) (Does.portable_too_long e k) m n = absurd (omega (arith, l, k, ap length (file_once d e)))
 does_once (Does.portable_too_long d l) (Does.writes e k) m n = absurd (omega (arith, l, k, ap length (file_once d e)))
 does_once (Does.portable_too_long d l) (Does.portable_too_long e k) m n = refl
@@ -282,6 +282,6 @@ answer_once held line x y d e = steps_once d.0 d.1 e.0 e.1 where
   steps_once (Steps.read {reads} {answers} l u d s) e (Steps.read {reads = others} {answers = again} m v i t) f =
       let same = line_once (chars line) reads others d i in
       let answered = order_of_answers (λ h r a b x y z w. pipe_once x y z w)
-          (subst (λ rs. InOrder PipeSteps held rs answers) same s)
+      (subst (λ rs. InOrder PipeSteps held rs answers) same s)
       (no_failures held answers e) t (no_failures held again f) in
       ap (whole held) answered

@@ -145,7 +145,7 @@ module _ (p : Place) (T e : Term) where
   names_once n m =
       let b : n.means ≡ only_mk =
       agree (λ q. agree (λ x. same_option (n.means q x) (only_mk q x)
-          (λ w h. names_from q x w ((m.of_names q x w).0 h)) (λ w h. (m.of_names q x w).1 (names_to q x w h)))) in
+      (λ w h. names_from q x w ((m.of_names q x w).0 h)) (λ w h. (m.of_names q x w).1 (names_to q x w h)))) in
       let c : n.is_constructor ≡ names.is_constructor =
       agree (λ x. same_test (n.is_constructor x) false (λ h. no_constructor x ((m.of_constructors x).0 h)) (λ h. cc)) in
       λ i. record { means = b i; is_constructor = c i }
@@ -170,10 +170,10 @@ module _ (p : Place) (T e : Term) where
       let main : mk ≡ main_name h.judgement h.name = hd.0 ∙ ap (λ k. main_name k h.name) is in
       let whole : f.whole ≡ entry.whole = i.whole ∙ sym (same_whole main hd.1) in
       let judgement : f.judgement ≡ entry.judgement =
-          i.judgement ∙ ap (λ n. resolved_judgement n (alone (main_name h.judgement h.name) h.judgement))
-          (names_once i.names (subst (λ c. AreMeanings mods c i.names) hd.1 i.meanings))
-          ∙ ap (λ y. resolved_judgement names (alone y h.judgement)) (sym main)
-          ∙ ap (λ t. resolved_judgement names (alone mk t)) (sym is) in
+      i.judgement ∙ ap (λ n. resolved_judgement n (alone (main_name h.judgement h.name) h.judgement))
+      (names_once i.names (subst (λ c. AreMeanings mods c i.names) hd.1 i.meanings))
+      ∙ ap (λ y. resolved_judgement names (alone y h.judgement)) (sym main)
+      ∙ ap (λ t. resolved_judgement names (alone mk t)) (sym is) in
       (cc, λ k. record { whole = whole k; judgement = judgement k })
 
   abbrev chosen : List (List ℕ)
@@ -188,8 +188,11 @@ module _ (p : Place) (T e : Term) where
   nothing : {es : List FlatJudgement} {P : Moment → FlatJudgement → Type 0} → es ≡ [] → ((at : Moment) (f : FlatJudgement)
       → ¬ P at f) → AreListed es P
   nothing {es} e lacks = record {
-    all = λ f. (λ c. let none = ap (λ (fs : List FlatJudgement). length fs) e in
-        absurd (omega (arith, c.1, none)), λ h. absurd (lacks h.0 f h.1));
+    all = λ f. (
+      λ c. let none = ap (λ (fs : List FlatJudgement). length fs) e in
+          absurd (omega (arith, c.1, none)),
+      λ h. absurd (lacks h.0 f h.1),
+    );
     in_order = λ i j d a b. let none = ap (λ (fs : List FlatJudgement). length fs) e in absurd (omega (arith, b, none));
   }
 
@@ -208,8 +211,16 @@ module _ (p : Place) (T e : Term) where
     itself,
     (3 ∷ 0 ∷ 0 ∷ []),
     refl,
-    record { name = mk; declared = here; judgement = text; has = declares 0 refl refl (0, omega arith, refl); turn_is = refl;
-        writes = own_text 0 refl refl; taken = refl; entry = entry_of_mk },
+    record {
+      name = mk;
+      declared = here;
+      judgement = text;
+      has = declares 0 refl refl (0, omega arith, refl);
+      turn_is = refl;
+      writes = own_text 0 refl refl;
+      taken = refl;
+      entry = entry_of_mk;
+    },
   )
 
   -- the grammar has the one oper and no abstract part
@@ -221,8 +232,14 @@ module _ (p : Place) (T e : Term) where
     funs_of = nothing refl (no_abstract functions);
     params_of = nothing refl no_parameter;
     opers_of = record {
-      all = λ f. (λ c. subst (λ g. (at : Moment) × HasSomewhere mods opers chosen at g) (one_of c) (_, has_entry), λ h. (0,
-          omega arith, sym (somewhere h.1).1));
+      all = λ f. (
+        λ c. subst (λ g. (at : Moment) × HasSomewhere mods opers chosen at g) (one_of c) (_, has_entry),
+        λ h. (
+          0,
+          omega arith,
+          sym (somewhere h.1).1,
+        ),
+      );
       in_order = λ i j d a b. absurd (omega (arith, a, b));
     };
     languages = refl;

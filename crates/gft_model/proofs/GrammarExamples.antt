@@ -37,8 +37,13 @@ word_fits = ((omega arith, refl), ((omega arith, (refl, refl)), refl))
 component_fits : Fits (symbol (1 ∷ [])) (Arg 0 0)
 component_fits = ((omega arith, refl), ((omega arith, refl), ((omega arith, refl), refl)))
 
-production_fits : Fits (production abs.funs eng.infos) (record { fun = 0; args = []; result = 2; seqs =
-    (Tok (codes "a") ∷ []) ∷ [] })
+production_fits : Fits (production abs.funs eng.infos) (record {
+  fun = 0;
+  args = [];
+  result = 2;
+  seqs =
+      (Tok (codes "a") ∷ []) ∷ [];
+})
 unfolding is_utf8 chars lib.Utf8.encode is_xid_start is_xid_continue xid_start_ranges xid_continue_ranges in_ranges
 production_fits = ((omega arith, refl), (refl, ((omega arith, refl), (((omega arith, (word_fits, refl)), refl), refl))))
 
@@ -189,10 +194,35 @@ lacking_fits = ((refl, refl), ((omega arith, refl), ((numbers, refl), ((omega ar
             (
               (((omega arith, (refl, refl)), ((omega arith, refl), refl)), refl),
               (
-                (((omega arith, (refl, refl)), ((omega arith,
-                    (((omega arith, refl), ((omega arith, refl), refl)), refl)), refl)), refl),
-                ((((omega arith, (refl, refl)), ((omega arith,
-                    (((omega arith, refl), ((omega arith, refl), refl)), refl)), refl)), refl), refl),
+                (
+                  (
+                    (omega arith, (refl, refl)),
+                    (
+                      (
+                        omega arith,
+                        (((omega arith, refl), ((omega arith, refl), refl)), refl),
+                      ),
+                      refl,
+                    ),
+                  ),
+                  refl,
+                ),
+                (
+                  (
+                    (
+                      (omega arith, (refl, refl)),
+                      (
+                        (
+                          omega arith,
+                          (((omega arith, refl), ((omega arith, refl), refl)), refl),
+                        ),
+                        refl,
+                      ),
+                    ),
+                    refl,
+                  ),
+                  refl,
+                ),
               ),
             ),
             (refl, refl),

@@ -12,7 +12,6 @@ use Rattle.gft_syntax.specs.declared.pattern.Pattern.TheViews.{roll-out-Pattern}
 use Rattle.gft_syntax.specs.declared.pattern.Pattern.TheOpen as P
 use Rattle.gft_syntax.specs.declared.reference.PlacedName.{PlacedName}
 use Rattle.gft_syntax.specs.declared.reference.Reference.TheVariants.{Written}
-use Rattle.gft_syntax.specs.declared.term.Case.{Case}
 use Rattle.gft_syntax.specs.declared.term.Local.TheVariants.{Value, Label, TypedValue}
 use Rattle.gft_syntax.specs.declared.term.Sort.{Sort}
 use Rattle.gft_syntax.specs.declared.term.Sort.TheVariants as Sort-V
@@ -27,10 +26,53 @@ use Rattle.gft_syntax.specs.declared.token.Symbol.TheVariants as S
 use Rattle.gft_syntax.specs.Parts.{list_name, is_value}
 use Rattle.gft_model.specs.Grammar as F
 use Rattle.gft_model.specs.Grammar.{Form, Piece, symbol, word, identifier, number as numeral, text, part, part_where, Maker, Layer, layer}
-pub use Rattle.gft_model.specs.Grammar.{Tokens, Is, IsReserved, IsNamed, IsNumber, IsQuoted, first_place, FirstAt, placed,
-    distinct, are_fields, Level, exp, exp1, exp2, exp3, exp4, exp5, exp6, PatternLevel, patt, patt1, patt2, patt3, patt4,
-    Part, term, pattern, local, branch, field, alternative, context, constructor, name, bind, placed_name, category_name,
-    inherited, opened, substitution, listed, semicolons, many, Meaning}
+pub use Rattle.gft_model.specs.Grammar.{
+  Tokens,
+  Is,
+  IsReserved,
+  IsNamed,
+  IsNumber,
+  IsQuoted,
+  first_place,
+  FirstAt,
+  placed,
+  distinct,
+  are_fields,
+  Level,
+  exp,
+  exp1,
+  exp2,
+  exp3,
+  exp4,
+  exp5,
+  exp6,
+  PatternLevel,
+  patt,
+  patt1,
+  patt2,
+  patt3,
+  patt4,
+  Part,
+  term,
+  pattern,
+  local,
+  branch,
+  field,
+  alternative,
+  context,
+  constructor,
+  name,
+  bind,
+  placed_name,
+  category_name,
+  inherited,
+  opened,
+  substitution,
+  listed,
+  semicolons,
+  many,
+  Meaning,
+}
 
 -- the next tighter level, whose forms are forms of the looser one too
 pub data Tighter : Level → Level → Type 0 where
@@ -225,7 +267,6 @@ pub data Spells : (g : Part) → Tokens → Meaning g → Tokens → Type 0 wher
   instance_of : {ts l s e t r i j : _} → Is S.LeftParenthesis l → IsNamed i s → Is S.Equals e → IsNamed j t →
       Is S.RightParenthesis r →
       Spells substitution (l ∷ s ∷ e ∷ t ∷ r ∷ ts) (record { interface = placed i s; instance = placed j t }) ts
-
 
 -- a form that is at the place of the first token
 at_first : {A : Type 0} (make : Place → A) {x : A} {q p : Place} → Some q ≡ Some p → x ≡ make p → x ≡ make q

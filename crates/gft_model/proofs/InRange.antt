@@ -101,7 +101,7 @@ module _ (a : Abstract) (names : List (List ℕ)) (are : names_of a.funs ≡ nam
   type_named n t h = both_true (ap (nat_lt t.cat) sized ∙ h.0.1)
       (list_all-map (is_index a.funs n) (fold-Tree Tree (named_step names)) t.args
       ∙ all_times _ (λ u. is_index a.funs n (fold-Tree Tree (named_step names) u))
-          (index_named a.funs names are n most_levels) _ _ h.1.0.1)
+      (index_named a.funs names are n most_levels) _ _ h.1.0.1)
 
   types_named : (n count : ℕ) (ts : List AType) → Fits (types size (length names) n count) ts
       → are_types a n (map (changed_type (named_step names)) ts) ≡ true
@@ -130,9 +130,9 @@ abstract_named b h =
     let size : length (named b).cats ≡ length (listed b.cats) + 2
     = length-map b.cats (category_changed (named_step names)) ∙ ap length (sym whole) ∙ omega arith in
     let cs = subst (λ n. Fits (ascending (λ (c : Cat). c.name) (category (length (listed b.cats) + 2) n) None
-        (length (listed b.cats))) (listed b.cats)) count h.1.1.1.1.0 in
+    (length (listed b.cats))) (listed b.cats)) count h.1.1.1.1.0 in
     let gs = subst (λ n. Fits (ascending (λ (f : Fun). f.name) (function (length (listed b.cats) + 2) n) None
-        (length b.funs)) b.funs) count h.1.1.1.1.1.0 in
+    (length b.funs)) b.funs) count h.1.1.1.1.1.0 in
     let few : nat_le (length (map (category_changed (named_step names)) (listed b.cats))) 16384 ≡ true
     = ap (λ n. nat_le n 16384) (length-map (listed b.cats) (category_changed (named_step names))) ∙ h.1.1.0.1 in
     let categories : are_categories (named b).cats ≡ true
@@ -170,8 +170,7 @@ infos_fit first (suc n) [] h = absurd h
 infos_fit first (suc n) (i ∷ is) h =
     let rest = infos_fit (first + i.count) n is h.1 in
     let from : i.first ≡ first = ap (λ (x : Info). x.first) (sym h.0.1.1) in
-    let counts = and_parts _ _ h.0.0.1 in
-    (
+    let counts = and_parts _ _ h.0.0.1 in (
       both_true (both_true (both_true (both_true (eq-eqb _ _ from) counts.0) counts.1) h.0.1.0.1) rest.0,
       omega (arith, rest.1),
     )
@@ -195,10 +194,10 @@ production_fits fs is p h = by_function (slice_get fs p.fun) refl where
   by_function (Some f) e =
       let args = subst (λ (o : Option Fun). Fits (nonterminals is (option_map_or categories_of o [])) p.args) e h.1.0 in
       let result = ap (λ (o : Option Fun). is_of is (option_map_or (λ (g : Fun). g.result.cat) o 0) p.result) (sym e)
-          ∙ h.1.1.0.1 in
+      ∙ h.1.1.0.1 in
       ap (λ (o : Option Fun). option_map_or (fits is p) o false) e
       ∙ both_true (both_true (args_fit is f.args p.args args) result)
-          (sequences_fit (map (dimension_of is) p.args) (dimension_of is p.result) p.seqs h.1.1.1.0)
+      (sequences_fit (map (dimension_of is) p.args) (dimension_of is p.result) p.seqs h.1.1.1.0)
 
 def_fits : (is : List Info) (d : Def) → Fits (def_form is) d → is_def is d ≡ true
 def_fits is d h = both_true h.0.1 (sequences_fit (1 ∷ []) (dimension_of is d.result) d.seqs h.1.0)
@@ -220,7 +219,7 @@ concrete_fits a size c h =
     let is = infos_fit 2 (length (listed a.cats)) (listed c.infos) h.1.0 in
     let count : length all ≡ length a.cats = omega (arith, is.1, size) in
     subst (λ (xs : List Info). is_concrete a
-        (record { name = c.name; infos = xs; prods = c.prods; defs = c.defs; refs = c.refs }) ≡ true) whole
+    (record { name = c.name; infos = xs; prods = c.prods; defs = c.defs; refs = c.refs }) ≡ true) whole
     (both_true (both_true (both_true (both_true (both_true (eq-eqb _ _ count) is.0) refl)
     (all_ascending _ _ _ (production_fits a.funs all) None _ _ h.1.1.0.1))
     (all_ascending _ _ _ (def_fits all) None _ _ h.1.1.1.0.1))
@@ -230,6 +229,6 @@ concrete_fits a size c h =
 pub fields_in_range : (a : Abstract) (cs : List Concrete) → Fits file (a, cs) → is_in_range a cs ≡ true
 fields_in_range a cs h =
     let abs : is_abstract a ≡ true = subst (λ (b : Abstract). is_abstract b ≡ true) h.1.1.0.1
-        (abstract_named (numbered a) h.1.1.0.0) in
+    (abstract_named (numbered a) h.1.1.0.0) in
     let categories = (and_parts _ _ (and_parts _ _ (and_parts _ _ abs).0).0).0 in
     both_true abs (all_ascending _ _ _ (concrete_fits a (two_more a.cats categories)) None _ _ h.1.1.1.0.1)

@@ -54,8 +54,14 @@ first_fault {A} P Q (x ∷ xs) each = by_first (each x (zero, omega arith, refl)
         before = put_before P x (take f.place xs) h f.before;
         fault = f.fault;
       })
-      by_first (inr q) rest = inr (record { place = 0; item = x; at_place = refl; before = λ k d b. absurd
-          (omega (arith, b)); fault = q })
+      by_first (inr q) rest = inr (record {
+        place = 0;
+        item = x;
+        at_place = refl;
+        before = λ k d b. absurd
+            (omega (arith, b));
+        fault = q;
+      })
 
 -- what fits in ascending order fits one by one
 each_ascending : {A : Type 0} (key : A → List ℕ) (f : Form A) (before : Option (List ℕ)) (n : ℕ) (xs : List A)
@@ -172,8 +178,12 @@ module _ (b : Abstract) (h : Fits numbered_abstract b) where
       by_concretes : HasTypes a → All IsReduced cs ⊎ FirstFault IsReduced (λ c. FirstFault (IsKept c) (IsNotKept c) c.prods) cs
           → IsGrammar a cs ⊎ ((flaw : Flaw) × (at : ℕ) × IsFlawed a cs flaw at)
       by_concretes types (inl all) = inl (record { fits = fit; types = types; reduced = all })
-      by_concretes types (inr f) = inr (unproductive, _, of_production f.place f.fault.place types f.at_place f.before
-          f.fault.at_place f.fault.before f.fault.fault)
+      by_concretes types (inr f) = inr (
+        unproductive,
+        _,
+        of_production f.place f.fault.place types f.at_place f.before
+            f.fault.at_place f.fault.before f.fault.fault,
+      )
 
       by_functions : All (IsCategoryTyped a) a.cats → All (IsFunctionTyped a) a.funs ⊎ FirstFault
           (IsFunctionTyped a) FunctionFlaw a.funs

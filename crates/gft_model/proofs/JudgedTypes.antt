@@ -135,7 +135,7 @@ module _ (a : Abstract) (names : List (List ℕ)) (are : names_of a.funs ≡ nam
     -- a type
     judged_type : (u : AType) → Fits (type_form (length a.cats) (length names) n) u
         → IsType a T (changed_type (named_step names) u) ⊎ ((flaw : Flaw) × HasTypeFlaw a T
-            (changed_type (named_step names) u) flaw)
+        (changed_type (named_step names) u) flaw)
     judged_type u h =
         let nothing : Cat = record { name = []; context = [] } in
         let numbered = slice_get-get_or a.cats u.cat nothing (ltb-true _ _ h.0.1) in
@@ -159,8 +159,11 @@ module _ (a : Abstract) (names : List (List ℕ)) (are : names_of a.funs ≡ nam
   pub one_more : (n : ℕ) (us : List AType) (u : AType) → EachFits n us
       → Fits (type_form (length a.cats) (length names) (n + length us)) u → EachFits n (us ++ u ∷ [])
   one_more n [] u each h = (subst (λ m. Fits (type_form (length a.cats) (length names) m) u) (omega arith) h, tt)
-  one_more n (v ∷ us) u each h = (each.0, one_more (suc n) us u each.1
-      (subst (λ m. Fits (type_form (length a.cats) (length names) m) u) (omega arith) h))
+  one_more n (v ∷ us) u each h = (
+    each.0,
+    one_more (suc n) us u each.1
+        (subst (λ m. Fits (type_form (length a.cats) (length names) m) u) (omega arith) h),
+  )
 
   abbrev JudgedTypes : List AType → List AType → Type 0
   JudgedTypes before ts = AreTypes a before ts ⊎ ((flaw : Flaw) × HaveTypesFlaw a before ts flaw)
@@ -170,7 +173,7 @@ module _ (a : Abstract) (names : List (List ℕ)) (are : names_of a.funs ≡ nam
   judged_types before [] few each = inl tt
   judged_types before (u ∷ us) few each = by_first
       (judged_type (numbered_from 1 before) (length before) (omega (arith, few))
-          (λ k b. variable_at 1 before k (suc k) (omega arith) b) u each.0)
+      (λ k b. variable_at 1 before k (suc k) (omega arith) b) u each.0)
       (judged_types (before ++ type ∷ []) us count (subst (λ n. EachFits n us) longer each.1)) where
         type : AType
         type = changed_type (named_step names) u

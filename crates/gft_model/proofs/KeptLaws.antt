@@ -168,17 +168,28 @@ module _ (c : Concrete) (defs : (d : Def) → Contains c.defs d → d.result < n
 
   starting_good : (n : ℕ) → Contains starting n → IsGood n
   starting_good n (zero, b, e) =
-      subst IsGood e (Int 0, number (outs-Int 0) (omega arith), subst (All (MayBeHole c)) (sym (by_layers-Int holes_step 0))
-          (all_empty (MayBeHole c)))
+      subst IsGood e (
+        Int 0,
+        number (outs-Int 0) (omega arith),
+        subst (All (MayBeHole c)) (sym (by_layers-Int holes_step 0))
+            (all_empty (MayBeHole c)),
+      )
   starting_good n (suc zero, b, e) =
-      subst IsGood e (Str (codes "a"), string (outs-Str (codes "a")) a_is_word, subst (All (MayBeHole c))
-          (sym (by_layers-Str holes_step (codes "a"))) (all_empty (MayBeHole c)))
+      subst IsGood e (
+        Str (codes "a"),
+        string (outs-Str (codes "a")) a_is_word,
+        subst (All (MayBeHole c))
+            (sym (by_layers-Str holes_step (codes "a"))) (all_empty (MayBeHole c)),
+      )
   starting_good n (suc (suc k), b, e) =
       let found = in_map c.defs n (k, omega (arith, b), e) in
       let allowed : MayBeHole c found.0.result = inr (found.0.seqs, found.1) in
-      subst IsGood found.2 (Hole found.0.result, hole (outs-Hole found.0.result) (defs found.0 found.1),
-      subst (All (MayBeHole c)) (sym (by_layers-Hole holes_step found.0.result))
-          (all_single (MayBeHole c) found.0.result allowed))
+      subst IsGood found.2 (
+        Hole found.0.result,
+        hole (outs-Hole found.0.result) (defs found.0 found.1),
+        subst (All (MayBeHole c)) (sym (by_layers-Hole holes_step found.0.result))
+            (all_single (MayBeHole c) found.0.result allowed),
+      )
 
   -- numbers that are good, with those to start from, and closed under the productions
   record Closed : Type 0 where
@@ -231,7 +242,7 @@ module _ (c : Concrete) (defs : (d : Def) → Contains c.defs d → d.result < n
   allowed_known x (suc (suc n)) (inl b) = absurd (omega (arith, b))
   allowed_known x n (inr (seqs, m)) =
       x.starts n (put_on 0 n (1 ∷ map (λ (d : Def). d.result) c.defs)
-          (put_on 1 n (map (λ (d : Def). d.result) c.defs) (to_map c.defs (record { result = n; seqs = seqs }) m)))
+      (put_on 1 n (map (λ (d : Def). d.result) c.defs) (to_map c.defs (record { result = n; seqs = seqs }) m)))
 
   -- each run whose holes are allowed is to a known number
   mutual

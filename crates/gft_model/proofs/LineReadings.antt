@@ -275,7 +275,7 @@ pipe_read text = let all = in_turn (λ c. command_read c.0 c.1) (in_pipe (parts 
   by_result (Ok []) d = absurd (some_commands (parts 124 outside text) (some_parts 124 text) d)
   by_result (Ok (c ∷ cs)) d =
       ⊎_elim {C = (r : Result (List Command) Refusal) × ReadsPipe text r} (λ j. (_, pipe d j)) (λ n. (_, bad_pipe d n))
-          (joined_or_not c cs)
+      (joined_or_not c cs)
 
 pipes_read : (texts : List (List ℕ)) → (reads : List (Result (List Command) Refusal)) × AllZip ReadsPipe texts reads
 pipes_read [] = ([], tt)

@@ -111,8 +111,10 @@ lacks_nothing r (shell.later n d) = elim d [ ]
 answered : (files : Files) → IsAnswer (record { state = Some loaded; files = files }) (codes "l Dup A")
     (replying (record { state = Some loaded; files = files }) (codes "a a" ∷ codes "b b" ∷ []))
 unfolding chars lib.Utf8.encode
-answered files =
-    (shell.read (omega arith) (codes "l Dup A", (refl, refl)) (line, tt)
-    (shell.more (shell.runs lacks_nothing refl refl
-    (next _ (commands.more (linearized (texts ∷ []) refl (dup_a, solution) refl (are_texts, tt)) commands.none) done))
-    refl shell.none), refl)
+answered files = (
+  shell.read (omega arith) (codes "l Dup A", (refl, refl)) (line, tt)
+      (shell.more (shell.runs lacks_nothing refl refl
+      (next _ (commands.more (linearized (texts ∷ []) refl (dup_a, solution) refl (are_texts, tt)) commands.none) done))
+      refl shell.none),
+  refl,
+)

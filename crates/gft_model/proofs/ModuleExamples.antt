@@ -145,8 +145,13 @@ module _ (p : Place) (T e : Term) where
   -- it is of the function of Hi
   pub lin_is_of : (bs : List Bind) (f : Term) → IsOf hi (codes "Hi") (codes "hi") (J.Lin (named (codes "hi") ∷ []) bs f)
   lin_is_of bs f = (
-    K.Lin, own (codes "Hi") 1, J.Fun (named (codes "hi") ∷ []) T, refl,
-    declares 1 refl refl (0, omega arith, refl), own_text 1 refl refl, refl,
+    K.Lin,
+    own (codes "Hi") 1,
+    J.Fun (named (codes "hi") ∷ []) T,
+    refl,
+    declares 1 refl refl (0, omega arith, refl),
+    own_text 1 refl refl,
+    refl,
   )
 
   pub has_no_hello : (d : Declared) → ¬ (Has hi (codes "HiEng") (codes "hello") d)

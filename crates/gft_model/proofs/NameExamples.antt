@@ -61,6 +61,7 @@ q_fits = parameter_given (form-roll _) (untyped_oper 1 (form-roll _) refl (param
 -- so does ListC, however many values it has
 pub list_fits : Checks both [] (name (codes "ListC")) sort_param no_value
 list_fits = parameter_given (form-roll _) (parameter_name (form-roll _) is_parameter) (inl is_parameter) (out-roll-CType _)
+
 -- Ints 3 is a type and does not fit PType
 abbrev ints_three : Term
 ints_three = roll-Term (F.App (roll-Term (F.Sort Sort.Ints nowhere)) (roll-Term (F.Num 3 nowhere)) nowhere)

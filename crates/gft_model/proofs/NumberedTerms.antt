@@ -133,25 +133,30 @@ same_abstract a h =
     let count : length a.funs ≡ length names = sym (length-map a.funs (λ (f : Fun). f.name)) in
     let size = length (listed a.cats) + 2 in
     let listed_fit = subst (λ n. Fits (ascending (λ (c : Cat). c.name) (category size n) None (length (listed a.cats)))
-        (listed a.cats)) count h.1.1.1.1.0 in
+    (listed a.cats)) count h.1.1.1.1.0 in
     let funs_fit = subst (λ n. Fits (ascending (λ (f : Fun). f.name) (function size n) None
-        (length a.funs)) a.funs) count h.1.1.1.1.1.0 in
+    (length a.funs)) a.funs) count h.1.1.1.1.1.0 in
     let back = λ (c : Cat). category_changed (numbered_step names) (category_changed (named_step names) c) in
     let inner : map (category_changed (numbered_step names)) (map (category_changed (named_step names)) (listed a.cats))
-        ≡ listed a.cats
+    ≡ listed a.cats
     = map_twice (category_changed (numbered_step names)) (category_changed (named_step names)) (listed a.cats)
     ∙ same_ascending _ _ _ (same_category names apart size) None _ _ listed_fit in
     let whole : literal_categories ++ listed a.cats ≡ a.cats = ap (λ (x : Abstract). x.cats) h.1.1.1.1.1.1 in
     let cats : map (category_changed (numbered_step names)) (map (category_changed (named_step names)) a.cats) ≡ a.cats
     = subst (λ (xs : List Cat). map (category_changed (numbered_step names)) (map (category_changed (named_step names)) xs)
-        ≡ xs) whole
+    ≡ xs) whole
     (ap (λ (xs : List Cat). literal_categories ++ xs) inner) in
     let funs : map (function_changed (numbered_step names)) (map (function_changed (named_step names)) a.funs) ≡ a.funs
     = map_twice (function_changed (numbered_step names)) (function_changed (named_step names)) a.funs
     ∙ same_ascending _ _ _ (same_function names apart size) None _ _ funs_fit in
     ap (λ ns. changed (numbered_step ns) (named a)) stay
-    ∙ ap (λ (xs : List Cat). record { name = a.name; start = a.start; cats = xs; funs =
-        (changed (numbered_step names) (named a)).funs }) cats
+    ∙ ap (λ (xs : List Cat). record {
+      name = a.name;
+      start = a.start;
+      cats = xs;
+      funs =
+          (changed (numbered_step names) (named a)).funs;
+    }) cats
     ∙ ap (λ (xs : List Fun). record { name = a.name; start = a.start; cats = a.cats; funs = xs }) funs
 
 -- the names of the functions of a file rise

@@ -100,9 +100,11 @@ first_flaw {a} {cs} {g} fs (of_category i {c} e all d) (of_category j {c = x} k 
     (λ b. absurd (types_flaw fs d (before_place (IsCategoryTyped a) (listed a.cats) j i c others b e)))
     (λ same.
     let found : Some c ≡ Some x = sym e ∙ ap (slice_get (listed a.cats)) same ∙ k in
-    let category : c ≡ x = cc in
-    (one_types_flaw fs d (subst (λ (y : Cat). HaveTypesFlaw a [] y.context g) (sym category) h), ap
-        (λ k. offset_of file (a, cs) (2 ∷ 0 ∷ 4 ∷ k ∷ [])) same))
+    let category : c ≡ x = cc in (
+      one_types_flaw fs d (subst (λ (y : Cat). HaveTypesFlaw a [] y.context g) (sym category) h),
+      ap
+          (λ k. offset_of file (a, cs) (2 ∷ 0 ∷ 4 ∷ k ∷ [])) same,
+    ))
     (λ b. absurd (types_flaw fs h (before_place (IsCategoryTyped a) (listed a.cats) i j x all b k)))
 first_flaw {a} fs (of_category i {c} e all d) (of_function k cats q others h) =
     absurd (types_flaw fs d (at_place (IsCategoryTyped a) (listed a.cats) i c (all_listed (IsCategoryTyped a) a.cats cats) e))
@@ -114,9 +116,11 @@ first_flaw {a} {cs} {g} fs (of_function i {f} cats e all d) (of_function j {f = 
     (λ b. absurd (types_flaw fs d (before_place (IsFunctionTyped a) a.funs j i f others b e)))
     (λ same.
     let found : Some f ≡ Some x = sym e ∙ ap (slice_get a.funs) same ∙ k in
-    let function : f ≡ x = cc in
-    (one_types_flaw fs d (subst (λ (y : Fun). HaveTypesFlaw a [] (signature_of y) g) (sym function) h), ap
-        (λ k. offset_of file (a, cs) (2 ∷ 0 ∷ 5 ∷ k ∷ [])) same))
+    let function : f ≡ x = cc in (
+      one_types_flaw fs d (subst (λ (y : Fun). HaveTypesFlaw a [] (signature_of y) g) (sym function) h),
+      ap
+          (λ k. offset_of file (a, cs) (2 ∷ 0 ∷ 5 ∷ k ∷ [])) same,
+    ))
     (λ b. absurd (types_flaw fs h (before_place (IsFunctionTyped a) a.funs i j x all b k)))
 first_flaw {a} fs (of_function k {f} cats q others h) (of_production l p types r before i kept n) =
     absurd (types_flaw fs h (at_place (IsFunctionTyped a) a.funs k f types.1 q))
@@ -133,9 +137,11 @@ first_flaw {a} {cs} fs (of_production l p {c} {prod} types e all q kept n)
     let places = one_production c prod other p r q
     (subst (λ (x : Concrete). slice_get x.prods r ≡ Some other) (sym concrete) s) kept
     (subst (λ (x : Concrete). All (IsKept x) (take r x.prods)) (sym concrete) rest) n
-    (subst (λ (x : Concrete). ¬ IsKept x other) (sym concrete) o) in
-    (refl, ap (λ k. offset_of file (a, cs) (3 ∷ suc k ∷ 2 ∷ suc p ∷ [])) same
-    ∙ ap (λ k. offset_of file (a, cs) (3 ∷ suc m ∷ 2 ∷ suc k ∷ [])) places))
+    (subst (λ (x : Concrete). ¬ IsKept x other) (sym concrete) o) in (
+      refl,
+      ap (λ k. offset_of file (a, cs) (3 ∷ suc k ∷ 2 ∷ suc p ∷ [])) same
+          ∙ ap (λ k. offset_of file (a, cs) (3 ∷ suc m ∷ 2 ∷ suc k ∷ [])) places,
+    ))
     (λ b. absurd (o (at_place (IsKept d) d.prods r other (before_place IsReduced cs l m d all b k) s)))
 
 -- of bytes too, and then they are at no fault

@@ -67,7 +67,7 @@ mutual
   fits-once (record_of {fs = fs} {gs = gs} {Ts = Ts} a0 a1 a2 a3) (record_of {fs = es} {gs = hs} {Ts = Us} b0 b1 b2 b3) e f =
       let k : fs ≡ es = cc in let l : gs ≡ hs = cc in
       let h : Some Ts ≡ Some Us = sym a2 ∙ ap (λ (xs : List (PatternField Pattern)). all_there (map (λ x. field_of x.0 gs) (label_by_label xs))) k
-          ∙ ap (λ (ys : List (List ℕ × CType)). all_there (map (λ x. field_of x.0 ys) (label_by_label es))) l ∙ b2 in
+      ∙ ap (λ (ys : List (List ℕ × CType)). all_there (map (λ x. field_of x.0 ys) (label_by_label es))) l ∙ b2 in
       each-once a3 b3 (cc) (ap (λ (xs : List (PatternField Pattern)). map (λ x. x.1) (label_by_label xs)) k)
   fits-once (record_of a0 a1 a2 a3) d e f = let k = form_is d in cc
 

@@ -135,7 +135,7 @@ no_words [] e = refl
 no_words (w ∷ ws) e = cc
 
 -- what may stand first is `yes`
-pub only_first : {mark : Mark} {w : List ℕ} → IsNext dead language 3 [] mark w 
+pub only_first : {mark : Mark} {w : List ℕ} → IsNext dead language 3 [] mark w
     → ◌≡◌ {A = Mark × List ℕ} (grammar, codes "yes") (mark, w)
 only_first {mark} {w} s =
     let words : marked (filled (h_gives ∷ []) whole) ≡ s.before ++ (mark, w) ∷ s.after =

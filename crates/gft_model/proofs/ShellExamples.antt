@@ -42,9 +42,11 @@ one_refusal : (held : Held) → IsAnswer held (codes "e ; frob ; e") (record {
   after = record held { state = None };
 })
 unfolding chars lib.Utf8.encode
-one_refusal held =
-    (read (omega arith) (codes "e ; frob ; e", (refl, refl)) lines.line
-    (more (empties_alone held) refl (more shell.refused refl (more (empties_alone _) refl none))), refl)
+one_refusal held = (
+  read (omega arith) (codes "e ; frob ; e", (refl, refl)) lines.line
+      (more (empties_alone held) refl (more shell.refused refl (more (empties_alone _) refl none))),
+  refl,
+)
 
 -- an empty session has no grammar
 nothing_to_parse : (files : Files) → PipeSteps (record { state = None; files = files })

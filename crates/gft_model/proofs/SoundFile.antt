@@ -56,20 +56,41 @@ sound_untagged : (functions variables tag : ℕ) (inner : Form Tree) → IsSound
 sound_untagged functions variables zero inner s = (
   tt,
   λ f h. (
-    (sound_list inner s, λ ts k. (tt, λ t e. ap (λ x. (parts (out-Tree x)).terms) (sym e) ∙ ap (λ (p : TermParts). p.terms)
-        (ap parts (outs-App _ _)))),
+    (
+      sound_list inner s,
+      λ ts k. (
+        tt,
+        λ t e. ap (λ x. (parts (out-Tree x)).terms) (sym e) ∙ ap (λ (p : TermParts). p.terms)
+            (ap parts (outs-App _ _)),
+      ),
+    ),
     λ t e. ap (λ x. (parts (out-Tree x)).number) (sym e.1) ∙ ap (λ (p : TermParts). p.number) (ap parts (outs-App _ _)),
   ),
 )
-sound_untagged functions variables (suc zero) inner s =
-    (tt, λ k h. (tt, λ t e. ap (λ x. (parts (out-Tree x)).number) (sym e) ∙ ap (λ (p : TermParts). p.number)
-        (ap parts (outs-Hole _))))
-sound_untagged functions variables (suc (suc zero)) inner s =
-    (tt, λ k h. (tt, λ t e. ap (λ x. (parts (out-Tree x)).number) (sym e) ∙ ap (λ (p : TermParts). p.number)
-        (ap parts (outs-Int _))))
-sound_untagged functions variables (suc (suc (suc n))) inner s =
-    ((tt, λ c h. (tt, λ w k. k.0)), λ w h. (tt, λ t e. ap (λ x. (parts (out-Tree x)).word) (sym e) ∙ ap
-        (λ (p : TermParts). p.word) (ap parts (outs-Str _))))
+sound_untagged functions variables (suc zero) inner s = (
+  tt,
+  λ k h. (
+    tt,
+    λ t e. ap (λ x. (parts (out-Tree x)).number) (sym e) ∙ ap (λ (p : TermParts). p.number)
+        (ap parts (outs-Hole _)),
+  ),
+)
+sound_untagged functions variables (suc (suc zero)) inner s = (
+  tt,
+  λ k h. (
+    tt,
+    λ t e. ap (λ x. (parts (out-Tree x)).number) (sym e) ∙ ap (λ (p : TermParts). p.number)
+        (ap parts (outs-Int _)),
+  ),
+)
+sound_untagged functions variables (suc (suc (suc n))) inner s = (
+  (tt, λ c h. (tt, λ w k. k.0)),
+  λ w h. (
+    tt,
+    λ t e. ap (λ x. (parts (out-Tree x)).word) (sym e) ∙ ap
+        (λ (p : TermParts). p.word) (ap parts (outs-Str _)),
+  ),
+)
 
 tag_is : (functions variables : ℕ) (inner : Form Tree) (n : ℕ) → n < 4 → (t : Tree)
     → Fits (untagged functions variables inner n) t → (parts (out-Tree t)).tag ≡ n
@@ -81,7 +102,7 @@ tag_is functions variables inner (suc (suc zero)) b t h = ap (λ x. (parts (out-
     (λ (p : TermParts). p.tag) (ap parts (outs-Int _))
 tag_is functions variables inner (suc (suc (suc n))) b t h =
     let three : (parts (out-Tree t)).tag ≡ 3 = ap (λ x. (parts (out-Tree x)).tag) (sym h.1) ∙ ap (λ (p : TermParts). p.tag)
-        (ap parts (outs-Str _)) in
+    (ap parts (outs-Str _)) in
     omega (arith, three, b)
 
 sound_term : (functions variables levels : ℕ) → IsSound (term functions variables levels)

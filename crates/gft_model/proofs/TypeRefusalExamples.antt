@@ -205,5 +205,5 @@ no_alternative_to_take = TypeFaults.no_alternative (λ e. cc)
     (TypingSites.has_overload (at_head (λ f a p e. let k = form-roll (T.Var (WholeName (whole (codes "f"))) (here 3 13)) in cc)) (form-roll _) (inr (refl, λ c. absurd (omega (arith, c.1)))))
     none_found (λ k B u s. nothing_suits s)
   where
-  nothing_suits : {k : ℕ} {B : CType} {u : LinTerm} → Suits (items_of no_alternatives) (whole (codes "f")) [] [] k B u → ⊥
-  nothing_suits (suits_by a b c) = cc
+    nothing_suits : {k : ℕ} {B : CType} {u : LinTerm} → Suits (items_of no_alternatives) (whole (codes "f")) [] [] k B u → ⊥
+    nothing_suits (suits_by a b c) = cc

@@ -1,13 +1,12 @@
 -- A file in whose characters nothing is broken has tokens.
-use Rattle.std.proofs.Common.{◌≡◌, ◌≢◌, refl, sym, ap, ◌∙◌, subst, append_assoc, ℕ, zero, suc, ◌+◌, ◌-◌, ◌^◌, ◌<◌, ◌≤◌, List, [], ◌∷◌, ◌++◌, Bool, true, false, arith, length, ◌⊎◌, inl, inr, ⊎_elim}
-use Rattle.std.proofs.Math.Seq.{take-length, drop-length}
+use Rattle.std.proofs.Common.{◌≡◌, ◌≢◌, refl, sym, ap, ◌∙◌, subst, append_assoc, ℕ, zero, suc, ◌+◌, ◌^◌, ◌<◌, ◌≤◌, List, [], ◌∷◌, ◌++◌, Bool, true, false, arith, length, ◌⊎◌, inl, inr, ⊎_elim}
+use Rattle.std.proofs.Math.Seq.{take-length}
 use Rattle.std.proofs.lemmas.Bool.{ltb-true, ltb-false}
-use Rattle.std.proofs.lemmas.List.{append-nil, take-append-drop}
+use Rattle.std.proofs.lemmas.List.{take-append-drop}
 use Rattle.std.proofs.lemmas.Str.{IsUtf8-append, IsUtf8-nil, IsUtf8-from_ascii, IsUtf8-from_is_utf8, is_utf8-from_IsUtf8, utf8_valid_len_le}
 use Rattle.std.specs.Char.{is_whitespace}
-use Rattle.std.specs.Cmp.{unsigned_Decides}
 use Rattle.std.specs.List.{list_all, position_or_len}
-use Rattle.std.specs.Prelude.{⊤, ◌==◌, ◌&&◌, ◌||◌, map, fold, take, drop, chars, slice_index, IsUtf8, IsAscii, Option, Some, None, option_map, option_and_then, nat_lt, encode_utf8_all, if◌then◌else◌}
+use Rattle.std.specs.Prelude.{◌==◌, ◌&&◌, map, take, drop, chars, IsUtf8, IsAscii, Option, Some, None, option_map, option_and_then, nat_lt, encode_utf8_all, if◌then◌else◌}
 use Rattle.std.specs.Option.{option_map_or}
 use Rattle.std.specs.Str.{is_utf8}
 use Rattle.std.specs.Str.Lossy.{utf8_valid_len, valid_len_up_to}
@@ -16,9 +15,9 @@ use Rattle.gft_rules.specs.declared.refusal.Refusal.{Refusal}
 use Rattle.gft_syntax.specs.declared.token.SourceToken.{SourceToken}
 use Rattle.gft_syntax.specs.declared.token.TokenForm.{TokenForm}
 use Rattle.gft_syntax.specs.declared.token.TokenForm.TheVariants.{Identifier, Reserved, Number, Quoted, Symbol}
-use Rattle.gft_model.specs.Source.{Tokens, Lexeme, blank, token, nothing, lexeme_at, longest, longest_from, form_of, token_lexeme, block_length, escaped, quoted_text, escape_text, tokens_from, in_range, after, first_place}
-use Rattle.gft_model.specs.TokenFaults.{BreaksTokens, Begins, at_start, after_blank, after_token, not_utf8, bad_character, open_string, bad_escape, open_comment, number_too_large, text_of, loose, moved, no_character, Inside, here, plain, escape, IsClosed}
-use Rattle.gft_model.proofs.TokenLaws.{Long, long_at, reading, read_here, one_less, is_that, is_other, text_is, none_from, quoted_as}
+use Rattle.gft_model.specs.Source.{Tokens, Lexeme, blank, token, nothing, lexeme_at, longest, longest_from, form_of, token_lexeme, block_length, escaped, quoted_text, tokens_from, in_range, after, first_place}
+use Rattle.gft_model.specs.TokenFaults.{BreaksTokens, Begins, at_start, after_blank, after_token, not_utf8, bad_character, open_string, bad_escape, open_comment, number_too_large, text_of, loose, moved, no_character, Inside, here, plain, escape}
+use Rattle.gft_model.proofs.TokenLaws.{Long, long_at, read_here, one_less, is_that, is_other, text_is, none_from, quoted_as}
 
 -- THE BYTES ARE UTF-8
 
@@ -194,7 +193,7 @@ module _ {file : ℕ} {bytes : List ℕ} (unbroken : (r : Refusal) → ¬ (Break
       let no_text = beyond bytes (length bytes) (suc n) (omega arith) (omega (arith, h)) in
       let low : nat_lt next.0 128 ≡ true → ⊥ = λ l.
       let text = IsUtf8-append (take n bytes) (next.0 ∷ []) (front bytes (length bytes))
-          (IsUtf8-from_ascii (next.0 ∷ []) (ascii_alone next.0 (ltb-true next.0 128 l))) in
+      (IsUtf8-from_ascii (next.0 ∷ []) (ascii_alone next.0 (ltb-true next.0 128 l))) in
       let is : is_utf8 (take (suc n) bytes) ≡ true =
       ap is_utf8 next.2 ∙ is_utf8-from_IsUtf8 (take n bytes ++ next.0 ∷ []) text in
       let wrong : false ≡ true = sym no_text ∙ is in cc in
@@ -228,7 +227,7 @@ module _ {file : ℕ} {bytes : List ℕ} (unbroken : (r : Refusal) → ¬ (Break
       let t = inside_suffix i in
       let where_it_is : text_of bytes ≡ (s.0 ++ 34 ∷ t.0 ++ 92 ∷ []) ++ k ∷ es =
       s.1 ∙ ap (λ xs. s.0 ++ 34 ∷ xs) t.1 ∙ sym (append_assoc s.0 (34 ∷ t.0) (92 ∷ k ∷ es))
-          ∙ sym (append_assoc (s.0 ++ 34 ∷ t.0) (92 ∷ []) (k ∷ es)) in
+      ∙ sym (append_assoc (s.0 ++ 34 ∷ t.0) (92 ∷ []) (k ∷ es)) in
       absurd (unbroken _ (not_utf8 (s.0 ++ 34 ∷ t.0 ++ 92 ∷ []) es k where_it_is (ltb-false k no_character h)))
 
   no_text : {p : Place} {cs : List ℕ} → Begins file (text_of bytes) p (34 ∷ cs) → longest (34 ∷ cs) ≡ None → ⊥
@@ -280,8 +279,8 @@ module _ {file : ℕ} {bytes : List ℕ} (unbroken : (r : Refusal) → ¬ (Break
       let first : SourceToken = record { form = t; place = p } in (
         first ∷ others.0,
         read_here p c cs (token t (suc m)) e
-        ∙ ap (λ x. option_map (λ ts. first ∷ ts) (tokens_from x (after c p) cs)) (one_less m)
-        ∙ ap (λ o. option_map (λ ts. first ∷ ts) o) others.1,
+            ∙ ap (λ x. option_map (λ ts. first ∷ ts) (tokens_from x (after c p) cs)) (one_less m)
+            ∙ ap (λ o. option_map (λ ts. first ∷ ts) o) others.1,
         and_true (in_range first) (list_all in_range others.0) (ranged t p (too_large b e)) others.2,
       )
 

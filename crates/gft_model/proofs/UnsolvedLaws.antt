@@ -120,7 +120,7 @@ module _ (a : Abstract) (t : Tree) where
   has_once {p} {c = c} (hole {q} x y f m) (hole {q = r} z w g n) =
       let k = hole_once p x z in
       let places : q ≡ r = not_after_once q r (g q (y ∙ ap (λ i. Some (layer.Hole i)) k))
-          (f r (w ∙ ap (λ i. Some (layer.Hole i)) (sym k))) in
+      (f r (w ∙ ap (λ i. Some (layer.Hole i)) (sym k))) in
       must_once (subst (λ v. MustHave a t v c) places m) n
 
   wrong_once : {p : List ℕ} {k : ℕ} {r s : Refusal} → IsWrongAt a t p k r → IsWrongAt a t p k s → r ≡ s

@@ -1,5 +1,5 @@
 -- What a session holds.
-use Rattle.std.specs.Prelude.{ℕ, List, [], ◌∷◌, map, bytes_eq, Contains, Option, Some, None, position, slice_get}
+use Rattle.std.specs.Prelude.{ℕ, List, [], map, bytes_eq, Contains, Option, Some, None, position, slice_get}
 use Rattle.std.specs.Cmp.Lexicographic.{slice_cmp}
 use Rattle.std.specs.List.{fold}
 use Rattle.std.specs.FinMap.{put}

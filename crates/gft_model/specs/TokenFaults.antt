@@ -1,5 +1,5 @@
 -- Faults of a file's characters: where something is neither white space, nor a comment, nor a token.
-use Rattle.std.specs.Prelude.{◌≡◌, ℕ, zero, suc, ◌+◌, ◌^◌, ◌<◌, ◌≤◌, List, [], ◌∷◌, ◌++◌, map, fold, take, drop, length, false, nat_lt, chars, encode_utf8_all, None, if◌then◌else◌, ◌≢◌}
+use Rattle.std.specs.Prelude.{◌≡◌, ℕ, ◌+◌, ◌^◌, ◌<◌, ◌≤◌, List, [], ◌∷◌, ◌++◌, map, fold, take, drop, length, false, nat_lt, chars, encode_utf8_all, None, if◌then◌else◌, ◌≢◌}
 use Rattle.std.specs.Char.{is_whitespace}
 use Rattle.std.specs.Str.Lossy.{utf8_valid_len}
 use Rattle.gft_core.specs.declared.place.Place.{Place}
