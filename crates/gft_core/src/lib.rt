@@ -4,6 +4,7 @@
 mod memory;
 mod name;
 mod place;
+mod shared;
 mod spacing;
 mod symbol;
 mod text;
@@ -13,6 +14,7 @@ mod tree;
 pub use memory::NoMemory;
 pub use name::{Name, is_continue, is_start};
 pub use place::Place;
+pub use shared::Shared;
 pub use spacing::{join, words, words_and_join};
 pub use symbol::Sym;
 pub use text::Text;

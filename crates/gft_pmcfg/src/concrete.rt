@@ -1,6 +1,6 @@
 //! Concrete syntax: nonterminals, productions, defs and refs.
 use crate::copied::Copied;
-use gft_core::{Name, NoMemory, Sym};
+use gft_core::{Name, NoMemory, Shared, Sym};
 use sqlite_items::Items;
 use std::alloc::Global;
 
@@ -20,21 +20,21 @@ pub struct Prod {
     pub fun: u32,
     pub args: Items<u32>,
     pub result: u32,
-    pub seqs: Items<Items<Sym>>,
+    pub seqs: Items<Shared<Items<Sym>>>,
 }
 
 /// A result of `lindef`: what a hole gives. `Arg(0, 0)` is the hole's token.
 #[derive(Drop)]
 pub struct Def {
     pub result: u32,
-    pub seqs: Items<Items<Sym>>,
+    pub seqs: Items<Shared<Items<Sym>>>,
 }
 
 /// A result of `linref`: how the components of a nonterminal make one string. The argument is 0.
 #[derive(Drop)]
 pub struct Ref {
     pub arg: u32,
-    pub seq: Items<Sym>,
+    pub seq: Shared<Items<Sym>>,
 }
 
 /// A concrete syntax. `infos` has an entry for each category by its number. Nonterminal 0 is that of

@@ -1,7 +1,7 @@
 //! Copies of what a grammar is made of.
 ghost use Rattle.std.specs.Prelude.{◌≡◌, IfOk, take};
 
-use gft_core::{Name, NoMemory, Sym, Tree};
+use gft_core::{Name, NoMemory, Shared, Tree};
 use sqlite_items::Items;
 use std::alloc::Global;
 
@@ -30,12 +30,9 @@ impl Copied for u32 {
     }
 }
 
-impl Copied for Sym {
-    fn copied(&self, alloc: Global) -> Result<Sym, NoMemory> {
-        match self {
-            Sym::Tok(word) => Ok(Sym::Tok(word.copy(alloc)?)),
-            Sym::Arg(argument, component) => Ok(Sym::Arg(*argument, *component)),
-        }
+impl<T: Drop> Copied for Shared<T> {
+    fn copied(&self, _alloc: Global) -> Result<Shared<T>, NoMemory> {
+        self.share()
     }
 }
 

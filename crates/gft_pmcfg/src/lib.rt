@@ -1,6 +1,7 @@
 //! Abstract and concrete syntax of a compiled grammar, its runs, and packed forests of runs.
 #![tactic(auto)]
 
+mod coerced;
 mod concrete;
 mod copied;
 mod forest;
@@ -8,6 +9,7 @@ mod grammar;
 mod run;
 mod signature;
 
+pub use coerced::{CArg, CProd, Coerced};
 pub use concrete::{Concrete, Def, Info, Prod, Ref};
 pub use forest::{Alt, Forest, Node};
 pub use grammar::Grammar;

@@ -1,7 +1,7 @@
 -- Codes are one to one.
 use Rattle.std.proofs.Common.{◌≡◌, ℕ, ◌==◌, Option, Some, find, refl, sym, ap, ◌∙◌}
 use Rattle.gft_rules.specs.declared.rule.Rule.{Rule}
-use Rattle.gft_rules.specs.declared.rule.Rule.TheVariants.{NotUtf8, BadCharacter, OpenString, BadEscape, OpenComment, NumberTooLarge, Syntax, TooDeep, OutOfProfile, MissingFile, CannotRead, FileTooLong, TooManyModules, NameMismatch, ModuleCycle, WrongKind, RestrictUnknown, InheritClash, NotIncomplete, ParameterUnmatched, InstanceLacks, Redefined, Unknown, Ambiguous, PatternVars, UnknownCat, HigherOrder, NotAbstract, Arity, IndexType, NoType, NotRecord, NoField, NotTable, NotFunction, Mismatch, FunctionHere, NotFinite, ParamTooLarge, NotExhaustive, NoOverload, ManyOverloads, OperCycle, ParamCycle, InstanceType, NoLincat, NoLin, TooManyCells, TooManyCases, GlueOnArgument, MatchOnArgument, NoStringBranch, TooManyProductions, TooManyCategories, AbstractsDiffer, BadMagic, BadVersion, Short, TooLong, BadText, BadNumber, BadTag, BadOrder, Invalid, UnknownCommand, BadOption, BadArgument, BadPipe, TreeSyntax, TreeTooDeep, BadLiteral, NoGrammar, NoLanguage, NoSuchLanguage, NoSuchCategory, TooManyWords, TokenTooLong, UnknownFun, WrongArity, WrongCategory, IllTyped, UnknownName, CannotWrite, PortableTooLong, LineTooLong, LineNotUtf8, NotBuilt}
+use Rattle.gft_rules.specs.declared.rule.Rule.TheVariants.{NotUtf8, BadCharacter, OpenString, BadEscape, OpenComment, NumberTooLarge, Syntax, TooDeep, OutOfProfile, MissingFile, CannotRead, FileTooLong, TooManyModules, NameMismatch, ModuleCycle, WrongKind, RestrictUnknown, InheritClash, NotIncomplete, ParameterUnmatched, InstanceLacks, Redefined, Unknown, Ambiguous, PatternVars, UnknownCat, HigherOrder, NotAbstract, Arity, IndexType, NoType, NotRecord, NoField, NotTable, NotFunction, Mismatch, FunctionHere, NotFinite, ParamTooLarge, NotExhaustive, NoOverload, ManyOverloads, OperCycle, ParamCycle, InstanceType, NoLincat, NoLin, TooManyCells, TooManyCases, GlueOnArgument, MatchOnArgument, NoStringBranch, TooManyProductions, TooManyCategories, AbstractsDiffer, BadMagic, BadVersion, Short, TooLong, BadText, BadNumber, BadTag, BadOrder, Invalid, UnknownCommand, BadOption, BadArgument, BadPipe, TreeSyntax, TreeTooDeep, BadLiteral, NoGrammar, NoLanguage, NoSuchLanguage, NoSuchCategory, TooManyWords, TokenTooLong, UnknownFun, WrongArity, WrongCategory, IllTyped, UnknownName, CannotWrite, PortableTooLong, LineTooLong, LineNotUtf8, TooManyNonterminals, TooManyTrees}
 use Rattle.gft_rules.specs.Rules.{code_of, every_rule, IsAlone}
 
 -- the rule with a code
@@ -96,7 +96,8 @@ found CannotWrite = refl
 found PortableTooLong = refl
 found LineTooLong = refl
 found LineNotUtf8 = refl
-found NotBuilt = refl
+found TooManyNonterminals = refl
+found TooManyTrees = refl
 
 pub alone : (r : Rule) → IsAlone r
 alone r other same =

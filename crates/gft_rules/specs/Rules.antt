@@ -1,7 +1,7 @@
 -- The rules and their codes and texts.
 use Rattle.std.specs.Prelude.{◌≡◌, ℕ, List, [], ◌∷◌, codes}
 use Rattle.gft_rules.specs.declared.rule.Rule.{Rule}
-use Rattle.gft_rules.specs.declared.rule.Rule.TheVariants.{NotUtf8, BadCharacter, OpenString, BadEscape, OpenComment, NumberTooLarge, Syntax, TooDeep, OutOfProfile, MissingFile, CannotRead, FileTooLong, TooManyModules, NameMismatch, ModuleCycle, WrongKind, RestrictUnknown, InheritClash, NotIncomplete, ParameterUnmatched, InstanceLacks, Redefined, Unknown, Ambiguous, PatternVars, UnknownCat, HigherOrder, NotAbstract, Arity, IndexType, NoType, NotRecord, NoField, NotTable, NotFunction, Mismatch, FunctionHere, NotFinite, ParamTooLarge, NotExhaustive, NoOverload, ManyOverloads, OperCycle, ParamCycle, InstanceType, NoLincat, NoLin, TooManyCells, TooManyCases, GlueOnArgument, MatchOnArgument, NoStringBranch, TooManyProductions, TooManyCategories, AbstractsDiffer, BadMagic, BadVersion, Short, TooLong, BadText, BadNumber, BadTag, BadOrder, Invalid, UnknownCommand, BadOption, BadArgument, BadPipe, TreeSyntax, TreeTooDeep, BadLiteral, NoGrammar, NoLanguage, NoSuchLanguage, NoSuchCategory, TooManyWords, TokenTooLong, UnknownFun, WrongArity, WrongCategory, IllTyped, UnknownName, CannotWrite, PortableTooLong, LineTooLong, LineNotUtf8, NotBuilt}
+use Rattle.gft_rules.specs.declared.rule.Rule.TheVariants.{NotUtf8, BadCharacter, OpenString, BadEscape, OpenComment, NumberTooLarge, Syntax, TooDeep, OutOfProfile, MissingFile, CannotRead, FileTooLong, TooManyModules, NameMismatch, ModuleCycle, WrongKind, RestrictUnknown, InheritClash, NotIncomplete, ParameterUnmatched, InstanceLacks, Redefined, Unknown, Ambiguous, PatternVars, UnknownCat, HigherOrder, NotAbstract, Arity, IndexType, NoType, NotRecord, NoField, NotTable, NotFunction, Mismatch, FunctionHere, NotFinite, ParamTooLarge, NotExhaustive, NoOverload, ManyOverloads, OperCycle, ParamCycle, InstanceType, NoLincat, NoLin, TooManyCells, TooManyCases, GlueOnArgument, MatchOnArgument, NoStringBranch, TooManyProductions, TooManyCategories, AbstractsDiffer, BadMagic, BadVersion, Short, TooLong, BadText, BadNumber, BadTag, BadOrder, Invalid, UnknownCommand, BadOption, BadArgument, BadPipe, TreeSyntax, TreeTooDeep, BadLiteral, NoGrammar, NoLanguage, NoSuchLanguage, NoSuchCategory, TooManyWords, TokenTooLong, UnknownFun, WrongArity, WrongCategory, IllTyped, UnknownName, CannotWrite, PortableTooLong, LineTooLong, LineNotUtf8, TooManyNonterminals, TooManyTrees}
 
 -- the code and the text of each rule
 abbrev pub row_of : Rule → ℕ × List ℕ
@@ -91,7 +91,8 @@ row_of CannotWrite = (83, codes "CannotWrite")
 row_of PortableTooLong = (84, codes "PortableTooLong")
 row_of LineTooLong = (85, codes "LineTooLong")
 row_of LineNotUtf8 = (86, codes "LineNotUtf8")
-row_of NotBuilt = (99, codes "NotBuilt")
+row_of TooManyNonterminals = (87, codes "TooManyNonterminals")
+row_of TooManyTrees = (88, codes "TooManyTrees")
 
 -- the number of a rule
 abbrev pub code_of : Rule → ℕ
@@ -116,7 +117,8 @@ every_rule =
     BadOrder ∷ Invalid ∷ UnknownCommand ∷ BadOption ∷ BadArgument ∷ BadPipe ∷ TreeSyntax ∷
     TreeTooDeep ∷ BadLiteral ∷ NoGrammar ∷ NoLanguage ∷ NoSuchLanguage ∷ NoSuchCategory ∷
     TooManyWords ∷ TokenTooLong ∷ UnknownFun ∷ WrongArity ∷ WrongCategory ∷ IllTyped ∷ UnknownName ∷
-    CannotWrite ∷ PortableTooLong ∷ LineTooLong ∷ LineNotUtf8 ∷ NotBuilt ∷ []
+    CannotWrite ∷ PortableTooLong ∷ LineTooLong ∷ LineNotUtf8 ∷ TooManyNonterminals ∷
+    TooManyTrees ∷ []
 
 -- no other rule has the code of this one
 abbrev pub IsAlone : Rule → Type 0

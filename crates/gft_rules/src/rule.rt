@@ -94,7 +94,8 @@ pub enum Rule {
     PortableTooLong = 84,
     LineTooLong = 85,
     LineNotUtf8 = 86,
-    NotBuilt = 99,
+    TooManyNonterminals = 87,
+    TooManyTrees = 88,
 }
 
 // Hands every rule, in the order of the codes, to another macro.
@@ -187,7 +188,8 @@ macro_rules! for_every_rule {
             PortableTooLong,
             LineTooLong,
             LineNotUtf8,
-            NotBuilt,
+            TooManyNonterminals,
+            TooManyTrees,
         }
     };
 }
@@ -208,7 +210,7 @@ macro_rules! name {
     };
 }
 
-static ROWS: [(u32, &'static str); 87] = for_every_rule!(rows());
+static ROWS: [(u32, &'static str); 88] = for_every_rule!(rows());
 
 impl Rule {
     /// The rule's number. It takes no memory.
@@ -228,7 +230,7 @@ impl Rule {
 }
 
 /// The table of all rules, in the order of their codes.
-pub fn rules() -> Table<87>
+pub fn rules() -> Table<88>
     ensures rows { result ≡ map row_of every_rule }
     ensures ascending { IsTrue (is_ascending result) }
 {

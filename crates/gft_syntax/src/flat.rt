@@ -1,4 +1,4 @@
-//! A grammar after names are resolved: all judgements that count, under their whole names.
+//! A grammar after names are resolved: all judgements that count, under their whole names. In the form of which the definitions speak until they follow `resolved`.
 use crate::judgement::Judgement;
 use crate::linear::Typed;
 use crate::reference::Whole;

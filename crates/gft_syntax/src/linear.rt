@@ -1,4 +1,4 @@
-//! Terms of linearization after typing: overloads chosen, subtypes marked.
+//! Terms of linearization after typing: overloads chosen, subtypes marked. In the form of which the definitions speak until they follow `typed`.
 use crate::ctype::CType;
 use crate::pattern::Pattern;
 use crate::reference::Whole;

@@ -1,6 +1,7 @@
 //! Modules: headers, what they inherit and open, and their judgements.
 use crate::judgement::Judgement;
 use crate::reference::PlacedName;
+use gft_core::Shared;
 use sqlite_items::Items;
 
 /// A module's kind and names. The second name of an instance is its interface, that of a concrete
@@ -41,7 +42,7 @@ pub struct Substitution {
 #[derive(Drop)]
 pub struct Body {
     pub opened: Items<Opened>,
-    pub judgements: Items<Judgement>,
+    pub judgements: Items<Shared<Judgement>>,
 }
 
 /// What follows `=`.

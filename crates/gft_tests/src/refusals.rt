@@ -8,7 +8,7 @@ use sqlite_items::Items;
 use std::alloc::Global;
 use std::test::Fail;
 
-static EXPECTED: [(Rule, u32, &'static str); 87] = [
+static EXPECTED: [(Rule, u32, &'static str); 88] = [
     (Rule::NotUtf8, 1, "NotUtf8"),
     (Rule::BadCharacter, 2, "BadCharacter"),
     (Rule::OpenString, 3, "OpenString"),
@@ -95,14 +95,15 @@ static EXPECTED: [(Rule, u32, &'static str); 87] = [
     (Rule::PortableTooLong, 84, "PortableTooLong"),
     (Rule::LineTooLong, 85, "LineTooLong"),
     (Rule::LineNotUtf8, 86, "LineNotUtf8"),
-    (Rule::NotBuilt, 99, "NotBuilt"),
+    (Rule::TooManyNonterminals, 87, "TooManyNonterminals"),
+    (Rule::TooManyTrees, 88, "TooManyTrees"),
 ];
 
 #[test]
 fn each_rule_has_its_code_and_its_text(rt: HostRuntime) {
     let table = rules();
     for (i, (rule, code, text)) in EXPECTED.iter().enumerate() {
-        assert!(rt; i < 87);
+        assert!(rt; i < 88);
         let (row_code, row_text) = table.row(i);
         assert_eq!(rt; rule.code(), *code);
         assert_eq!(rt; rule.text(), *text);
