@@ -5,7 +5,7 @@ use Rattle.std.specs.List.{list_all}
 use Rattle.std.specs.Option.{option_map_or}
 use Rattle.std.proofs.Common.{refl, sym, ap, ◌∙◌, subst, arith}
 use Rattle.std.proofs.Math.Bool.{or-true}
-use Rattle.std.proofs.lemmas.Bool.{ltb-true, le-leb, eq-eqb, and_parts}
+use Rattle.std.proofs.lemmas.Bool.{ltb-true, leb-true, le-leb, eq-eqb, and_parts}
 use Rattle.std.proofs.lemmas.List.{length-map}
 use Rattle.std.proofs.lemmas.List.Folds.{list_all-map}
 use Rattle.std.proofs.lemmas.Option.{slice_get-get_or}
@@ -163,6 +163,10 @@ sequences_fit : (dims : List ℕ) (dim : ℕ) (seqs : List (List Sym)) → Fits 
 sequences_fit dims dim seqs h = both_true (eq-eqb _ _ (count_of (sequence dims) dim seqs h))
     (all_times (sequence dims) (list_all (is_symbol dims)) (sequence_fits dims) dim seqs h)
 
+-- what is at most 65,536 is at most 1,048,576
+within_more : (n : ℕ) → nat_le n 65536 ≡ true → nat_le n 1048576 ≡ true
+within_more n h = le-leb n 1048576 (omega (arith, leb-true n 65536 h))
+
 -- what is made of categories
 infos_fit : (first n : ℕ) (is : List Info) → Fits (infos first n) is → (are_infos first is ≡ true) × (length is ≡ n)
 infos_fit first zero is h = (ap (are_infos first) (sym h), ap length (sym h))
@@ -171,7 +175,7 @@ infos_fit first (suc n) (i ∷ is) h =
     let rest = infos_fit (first + i.count) n is h.1 in
     let from : i.first ≡ first = ap (λ (x : Info). x.first) (sym h.0.1.1) in
     let counts = and_parts _ _ h.0.0.1 in (
-      both_true (both_true (both_true (both_true (eq-eqb _ _ from) counts.0) counts.1) h.0.1.0.1) rest.0,
+      both_true (both_true (eq-eqb _ _ from) (both_true (both_true counts.0 (within_more i.count counts.1)) h.0.1.0.1)) rest.0,
       omega (arith, rest.1),
     )
 

@@ -22,9 +22,13 @@ use Rattle.gft_model.specs.TreeStrings.{string_outcomes}
 use Rattle.gft_model.specs.TreeValues.{hole_outcomes}
 use Rattle.gft_model.specs.Modules.{placed_names, sort_of}
 
--- the most cells of a linearization type, cases of a category or of a function, and results of a function
+-- the most cells of a linearization type
+abbrev pub most_cells : ℕ
+most_cells = 65536
+
+-- the most cases of a category or of a function, and the most results of a function
 abbrev pub most : ℕ
-most = 65536
+most = 1048576
 
 -- the first stuck step among outcomes
 abbrev pub first_stuck : List Outcome → Option Stuck
@@ -74,7 +78,7 @@ pub data BreaksCompiling (flat : Flat) (lang : List ℕ) : Moment → Refusal �
   no_lincat : {e : FlatJudgement} → Contains flat.cats e → is_there flat lang K.Lincat e.whole.name ≡ false →
       BreaksCompiling flat lang (0 ∷ name_moment e.whole.name) (placeless R.NoLincat (lang ∷ e.whole.name ∷ []))
   too_many_cells : {e : FlatJudgement} {T p : _} → Contains flat.cats e → lin_type flat lang e.whole.name ≡ Some T →
-      most < length (cells_of_type T) → StandsAt flat lang K.Lincat e.whole.name p →
+      most_cells < length (cells_of_type T) → StandsAt flat lang K.Lincat e.whole.name p →
       BreaksCompiling flat lang (0 ∷ name_moment e.whole.name) (refusal R.TooManyCells p (lang ∷ e.whole.name ∷ []))
   no_lin : {e : FlatJudgement} → Contains flat.funs e → is_there flat lang K.Lin e.whole.name ≡ false →
       BreaksCompiling flat lang (1 ∷ name_moment e.whole.name) (placeless R.NoLin (lang ∷ e.whole.name ∷ []))

@@ -8,7 +8,7 @@ use Rattle.gft_pmcfg.specs.Ranges.{are_infos}
 
 -- the first category begins where the categories do
 pub head_first : (next : ℕ) (i : Info) (is : List Info) → are_infos next (i ∷ is) ≡ true → i.first ≡ next
-head_first next i is h = eqb-true _ _ (and_parts _ _ (and_parts _ _ (and_parts _ _ (and_parts _ _ h).0).0).0).0
+head_first next i is h = eqb-true _ _ (and_parts _ _ (and_parts _ _ h).0).0
 
 -- and the others where it ends
 pub tail_infos : (next : ℕ) (i : Info) (is : List Info) → are_infos next (i ∷ is) ≡ true

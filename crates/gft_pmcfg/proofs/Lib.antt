@@ -1,2 +1,5 @@
 pub mod Firsts
 pub mod Languages
+pub mod Loops
+pub mod Fitting
+pub mod Indices

@@ -1,3 +1,4 @@
 pub mod Nonterminals
 pub mod Ranges
 pub mod Layers
+pub mod Dimensions

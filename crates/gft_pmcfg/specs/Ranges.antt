@@ -65,13 +65,14 @@ is_abstract a =
     are_categories a.cats && nat_lt a.start (length a.cats) && list_all (is_category a) a.cats
     && list_all (is_function a) a.funs
 
--- the nonterminals of each category come right after those of the one before; there are at most 65,536
--- of them, and as many string cells
+-- there are at most 1,048,576 nonterminals of a category, and 65,536 string cells
+abbrev pub is_info : Info → Bool
+is_info i = nat_le 1 i.count && nat_le i.count 1048576 && nat_le i.dim 65536
+
+-- the nonterminals of each category come right after those of the one before
 abbrev pub are_infos : ℕ → List Info → Bool
 are_infos next [] = true
-are_infos next (i ∷ is) =
-    i.first == next && nat_le 1 i.count && nat_le i.count 65536 && nat_le i.dim 65536
-    && are_infos (next + i.count) is
+are_infos next (i ∷ is) = i.first == next && is_info i && are_infos (next + i.count) is
 
 -- one case with one string cell
 abbrev pub is_single : Info → Bool

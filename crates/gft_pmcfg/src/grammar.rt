@@ -4,6 +4,7 @@ ghost use Rattle.gft_pmcfg.specs.Ranges.{is_in_range};
 
 use crate::concrete::{Concrete, Info};
 use crate::copied::Copied;
+use crate::ranges::is_in_range;
 use crate::signature::Abstract;
 use gft_core::NoMemory;
 use sqlite_items::Items;
@@ -19,6 +20,18 @@ pub struct Grammar {
 }
 
 impl Grammar {
+    /// The grammar of these parts. None where a number is out of range or a dimension does not agree.
+    pub fn checked(
+        alloc: Global,
+        abs: Abstract,
+        concretes: Items<Concrete>,
+    ) -> Result<Option<Grammar>, NoMemory> {
+        if !is_in_range(alloc, &abs, concretes.as_slice())? {
+            return Ok(None);
+        }
+        Ok(Some(Grammar { abs, concretes }))
+    }
+
     ghost use Rattle.gft_pmcfg.specs.Nonterminals.{infos_at, nonterminals_of, dimension_of};
 
     /// The number of string cells of a nonterminal, by halving the list of categories. It takes no memory.

@@ -6,6 +6,7 @@ mod concrete;
 mod copied;
 mod forest;
 mod grammar;
+mod ranges;
 mod run;
 mod signature;
 
