@@ -1,0 +1,62 @@
+//! The strings of a tree, by the productions of a concrete syntax.
+#![tactic(auto)]
+
+mod language;
+mod lines;
+mod members;
+mod value;
+mod walk;
+
+use gft_core::{NoMemory, Token, Tree};
+use gft_pmcfg::{Abstract, Coerced, Grammar};
+use language::Language;
+use std::alloc::Global;
+
+/// The distinct strings of a tree, in byte order of their texts. `cat` is the category of a tree that is
+/// one hole. The time grows with the values of the subtrees, each of which is made once.
+pub fn strings(
+    alloc: Global,
+    g: &Grammar,
+    lang: u32,
+    cat: u32,
+    tree: &Tree,
+) -> Result<Vec<Vec<Token>>, NoMemory> {
+    match g.concretes.get(lang as usize) {
+        None => Ok(Vec::new(alloc)), // a language is in range
+        Some(c) => {
+            let language = Language::plain(&g.abs, c);
+            lines::lines(alloc, &language, cat, tree)
+        }
+    }
+}
+
+/// The string cells of each distinct value of a tree, in the order of the cases and then of the texts of
+/// the cells. `cat` is the category of a tree that is one hole.
+pub fn cells_of(
+    alloc: Global,
+    g: &Grammar,
+    lang: u32,
+    cat: u32,
+    tree: &Tree,
+) -> Result<Vec<Vec<Vec<Token>>>, NoMemory> {
+    match g.concretes.get(lang as usize) {
+        None => Ok(Vec::new(alloc)), // a language is in range
+        Some(c) => {
+            let language = Language::plain(&g.abs, c);
+            lines::cells(alloc, &language, cat, tree)
+        }
+    }
+}
+
+/// What `strings` gives for the concrete syntax in which each production stands once for each choice of
+/// members of its groups.
+pub fn strings_of(
+    alloc: Global,
+    c: &Coerced,
+    abs: &Abstract,
+    cat: u32,
+    tree: &Tree,
+) -> Result<Vec<Vec<Token>>, NoMemory> {
+    let language = Language::shared(abs, c);
+    lines::lines(alloc, &language, cat, tree)
+}

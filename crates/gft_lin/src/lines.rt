@@ -1,0 +1,91 @@
+//! The strings and the cells of a tree, from the texts of its values.
+use crate::language::Language;
+use crate::value::{Value, put};
+use crate::walk::values;
+use gft_core::{NoMemory, Token, Tree, words};
+use std::alloc::Global;
+
+/// Adds the one component of each value of a literal's category.
+fn add_components(alloc: Global, value: &Value, all: &mut Vec<String>) -> Result<(), NoMemory> {
+    for text in value.components.as_slice() {
+        all.push(String::from_str(alloc, text.as_str())?)?;
+    }
+    Ok(())
+}
+
+/// Adds the texts of the strings of the value at this place.
+fn add_texts(
+    alloc: Global,
+    language: &Language<'_>,
+    found: &[Vec<Value>],
+    value: &Value,
+    place: usize,
+    all: &mut Vec<String>,
+) -> Result<(), NoMemory> {
+    if value.nonterminal < 2 {
+        return add_components(alloc, value, all);
+    }
+    for seq in language.refs(alloc, value.nonterminal)?.as_slice() {
+        all.push(put(alloc, seq, found, &[place])?)?;
+    }
+    Ok(())
+}
+
+/// The texts of the strings of the values, each once and in order.
+fn texts(
+    alloc: Global,
+    language: &Language<'_>,
+    found: &[Vec<Value>],
+) -> Result<Vec<String>, NoMemory> {
+    let mut all = Vec::new(alloc);
+    for values in found {
+        let mut place = 0usize;
+        for value in values.as_slice() {
+            add_texts(alloc, language, found, value, place, &mut all)?;
+            place = place.saturating_add(1);
+        }
+    }
+    if all.len() > 1 {
+        all.sort()?;
+        all.dedup();
+    }
+    Ok(all)
+}
+
+/// The distinct strings of a tree, in byte order of their texts.
+pub fn lines(
+    alloc: Global,
+    language: &Language<'_>,
+    cat: u32,
+    tree: &Tree,
+) -> Result<Vec<Vec<Token>>, NoMemory> {
+    let mut found = Vec::new(alloc);
+    found.push(values(alloc, language, cat, tree)?)?;
+    let mut answer = Vec::new(alloc);
+    for text in texts(alloc, language, found.as_slice())?.as_slice() {
+        answer.push(words(alloc, text.as_str())?)?;
+    }
+    Ok(answer)
+}
+
+fn cells_of_value(alloc: Global, value: &Value) -> Result<Vec<Vec<Token>>, NoMemory> {
+    let mut cells = Vec::new(alloc);
+    for text in value.components.as_slice() {
+        cells.push(words(alloc, text.as_str())?)?;
+    }
+    Ok(cells)
+}
+
+/// The cells of each distinct value of a tree, by case and then by the texts of the cells.
+pub fn cells(
+    alloc: Global,
+    language: &Language<'_>,
+    cat: u32,
+    tree: &Tree,
+) -> Result<Vec<Vec<Vec<Token>>>, NoMemory> {
+    let mut answer = Vec::new(alloc);
+    for value in values(alloc, language, cat, tree)?.as_slice() {
+        answer.push(cells_of_value(alloc, value)?)?;
+    }
+    Ok(answer)
+}
