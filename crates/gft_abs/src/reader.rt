@@ -362,6 +362,7 @@ impl<'r, 'a> Reader<'r, 'a> {
         named(self.alloc, rule, place, name)
     }
 
+    /// The allocator of all that is made.
     pub fn alloc(&self) -> Global {
         self.alloc
     }

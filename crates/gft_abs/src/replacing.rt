@@ -22,6 +22,7 @@ pub fn replaced(alloc: Global, tree: &Tree, arguments: &[Tree]) -> Result<Tree, 
     }
 }
 
+/// Each tree with its variables replaced by the arguments, in order; linear in what is copied.
 #[cycle(replaced)]
 pub fn all_replaced(
     alloc: Global,

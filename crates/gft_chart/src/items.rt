@@ -97,6 +97,7 @@ pub struct Items {
 }
 
 impl Items {
+    /// No items, with room for the latest of so many slots.
     pub fn new(alloc: Global, slots: u32) -> Result<Items, NoMemory> {
         let mut items = Items {
             items: Vec::new(alloc),
@@ -122,6 +123,7 @@ impl Items {
         Ok(items)
     }
 
+    /// How much there is now, to come back to.
     pub fn mark(&self) -> Mark {
         Mark {
             items: self.items.len(),
@@ -148,6 +150,7 @@ impl Items {
         self.last = mark.last;
     }
 
+    /// Adds an item: its dot, its group and its arguments, by number.
     pub fn add_item(&mut self, dot: u32, group: u32, arguments: u32) -> Result<(), NoMemory> {
         let _number = count(self.items.len())?;
         self.links.push(NONE)?;
@@ -193,13 +196,5 @@ impl Items {
             Symbol::End(rule) => tables.rule(rule),
             _ => None,
         }
-    }
-}
-
-/// Whether the rule is a literal's.
-pub fn is_literal(rule: Rule) -> bool {
-    match rule.origin {
-        Origin::Int | Origin::Str => true,
-        Origin::Production(_) | Origin::Ref => false,
     }
 }

@@ -111,6 +111,7 @@ fn key_of(alloc: Global, nonterminal: u32, pins: &Vec<Pin>) -> Result<Vec<u32>, 
 }
 
 impl Packing {
+    /// Nothing packed yet, of the nodes of these items.
     pub fn new(alloc: Global, items: &Items) -> Result<Packing, NoMemory> {
         let mut packing = Packing {
             alloc,

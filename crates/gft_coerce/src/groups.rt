@@ -28,6 +28,7 @@ pub struct Places {
 }
 
 impl Groups {
+    /// No group yet.
     pub fn new(alloc: Global) -> Groups {
         Groups {
             met: IndexSet::new(alloc),

@@ -88,6 +88,7 @@ fn met_at(f: &Forest, sequence: &[Sym], children: &[Option<u32>], at: u32) -> Me
 }
 
 impl Places {
+    /// No place asked yet.
     pub fn new(alloc: Global) -> Places {
         Places {
             asked: IndexSet::new(alloc),

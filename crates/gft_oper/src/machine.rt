@@ -30,6 +30,7 @@ fn put<T: Drop>(values: &mut Vec<T>, at: usize, value: T) {
     }
 }
 
+/// How many there are, at most `u32::MAX`.
 pub fn count_of<T>(terms: &[T]) -> u32 {
     u32::try_from(terms.len()).unwrap_or(u32::MAX)
 }
@@ -100,6 +101,7 @@ pub enum Named {
 }
 
 impl Machine {
+    /// A machine over these meanings, by number, with no scope open.
     pub fn new(alloc: Global, meanings: Vec<Meaning>) -> Machine {
         Machine {
             meanings,
@@ -142,10 +144,12 @@ impl Machine {
         }
     }
 
+    /// Gives a judgement its meaning, where there is such a number.
     pub fn set_meaning(&mut self, number: u32, meaning: Meaning) {
         put(&mut self.meanings, number as usize, meaning);
     }
 
+    /// What has no outcome, as data.
     pub fn no_outcome(&self, alloc: Global) -> Result<Outcome, NoMemory> {
         Ok(Outcome::Data(no_outcome(alloc)?))
     }

@@ -23,6 +23,7 @@ pub fn no_outcome(alloc: Global) -> Result<LinTerm, NoMemory> {
 }
 
 impl Meaning {
+    /// The same meaning, sharing its parts.
     pub fn copy(&self) -> Result<Meaning, NoMemory> {
         match self {
             Meaning::Nothing => Ok(Meaning::Nothing),
@@ -33,6 +34,7 @@ impl Meaning {
     }
 }
 
+/// Whether it is a type of functions.
 pub fn is_function(ctype: &CType) -> bool {
     matches!(ctype, CType::Fun(_, _))
 }

@@ -114,6 +114,7 @@ pub struct Scopes {
 }
 
 impl Scopes {
+    /// No scope and no function yet.
     pub fn new(alloc: Global) -> Scopes {
         Scopes {
             links: Vec::new(alloc),

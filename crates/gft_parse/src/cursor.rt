@@ -53,10 +53,12 @@ impl<'a> Cursor<'a> {
         }
     }
 
+    /// Whether no token is left.
     pub fn is_at_end(&self) -> bool {
         self.at >= self.end
     }
 
+    /// Whether the token so many further on, from 0, is that symbol.
     pub fn is_symbol(&self, n: usize, symbol: Symbol) -> bool {
         match self.ahead(n) {
             Some(TokenForm::Symbol(found)) => *found == symbol,
@@ -64,6 +66,7 @@ impl<'a> Cursor<'a> {
         }
     }
 
+    /// Whether the next token is that reserved word.
     pub fn is_word(&self, word: Reserved) -> bool {
         match self.ahead(0) {
             Some(TokenForm::Reserved(found)) => *found == word,

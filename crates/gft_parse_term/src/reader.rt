@@ -68,10 +68,12 @@ impl<'a> Reader<'a> {
         }
     }
 
+    /// Whether no token is left.
     pub fn is_at_end(&self) -> bool {
         self.at >= self.end
     }
 
+    /// The symbol so many tokens further on, from 0, if one stands there.
     pub fn symbol_ahead(&self, n: u32) -> Option<Symbol> {
         match self.ahead(n) {
             Some(TokenForm::Symbol(symbol)) => Some(*symbol),
@@ -79,6 +81,7 @@ impl<'a> Reader<'a> {
         }
     }
 
+    /// Whether the token so many further on, from 0, is that symbol.
     pub fn is_symbol(&self, n: u32, symbol: Symbol) -> bool {
         match self.symbol_ahead(n) {
             None => false,
@@ -86,6 +89,7 @@ impl<'a> Reader<'a> {
         }
     }
 
+    /// Whether the next token is that reserved word.
     pub fn is_word(&self, word: Reserved) -> bool {
         match self.ahead(0) {
             Some(TokenForm::Reserved(found)) => *found == word,
@@ -93,6 +97,7 @@ impl<'a> Reader<'a> {
         }
     }
 
+    /// Whether the token so many further on, from 0, is a name.
     pub fn is_name(&self, n: u32) -> bool {
         matches!(self.ahead(n), Some(TokenForm::Identifier(_)))
     }

@@ -53,6 +53,7 @@ fn scaled(run: Run, by: u32) -> Run {
     }
 }
 
+/// The run moved on by so many.
 pub fn shifted(run: Run, by: u32) -> Run {
     Run {
         start: run.start.saturating_add(by),

@@ -5,6 +5,7 @@ use gft_syntax::{Bind, PlacedName, Setting};
 use sqlite_items::Items;
 use std::alloc::Global;
 
+/// The names copied, in order.
 pub fn copy_names(alloc: Global, names: &[Name]) -> Result<Items<Name>, NoMemory> {
     let mut all = Items::new(alloc);
     'each: for name in names {
@@ -13,6 +14,7 @@ pub fn copy_names(alloc: Global, names: &[Name]) -> Result<Items<Name>, NoMemory
     Ok(all)
 }
 
+/// The name copied, at its place.
 pub fn copy_placed(alloc: Global, name: &PlacedName) -> Result<PlacedName, NoMemory> {
     Ok(PlacedName {
         name: name.name.copy(alloc)?,
@@ -42,6 +44,7 @@ fn copy_bind(alloc: Global, bind: &Bind) -> Result<Bind, NoMemory> {
     }
 }
 
+/// The binders copied, in order.
 pub fn copy_binds(alloc: Global, binds: &[Bind]) -> Result<Items<Bind>, NoMemory> {
     let mut all = Items::new(alloc);
     'each: for bind in binds {
@@ -50,10 +53,12 @@ pub fn copy_binds(alloc: Global, binds: &[Bind]) -> Result<Items<Bind>, NoMemory
     Ok(all)
 }
 
+/// The text copied.
 pub fn copy_text(alloc: Global, text: &Text) -> Result<Text, NoMemory> {
     text.copy(alloc)
 }
 
+/// The module's name copied, where there is one.
 pub fn copy_module(alloc: Global, name: &Option<Name>) -> Result<Option<Name>, NoMemory> {
     match name {
         None => Ok(None),
@@ -61,6 +66,7 @@ pub fn copy_module(alloc: Global, name: &Option<Name>) -> Result<Option<Name>, N
     }
 }
 
+/// The flag's setting copied.
 pub fn copy_setting(alloc: Global, setting: &Setting) -> Result<Setting, NoMemory> {
     match setting {
         Setting::Name(name) => Ok(Setting::Name(name.copy(alloc)?)),
