@@ -144,24 +144,35 @@ impl Counting {
     }
 }
 
-/// What has a run before any production is looked at: literals, and what defs give a hole.
+/// The literals have runs.
 fn begun(alloc: Global, c: &Concrete) -> Result<Counting, NoMemory> {
     let mut counting = Counting::new(alloc, nonterminals(c.infos.as_slice()))?;
     counting.reach(0)?;
     counting.reach(1)?;
-    for def in c.defs.as_slice() {
-        counting.reach(def.result)?;
-    }
     Ok(counting)
 }
 
-/// For each production how many of its arguments have no run.
-pub fn counted(alloc: Global, c: &Concrete) -> Result<Vec<u32>, NoMemory> {
+/// For each production how many of its arguments have no run beyond what has one at the beginning.
+fn missing(counting: Counting, c: &Concrete) -> Result<Vec<u32>, NoMemory> {
     let prods = c.prods.as_slice();
-    let mut counting = begun(alloc, c)?;
+    let mut counting = counting;
     for prod in prods {
         counting.add(prod)?;
     }
     counting.close(prods)?;
     Ok(counting.missing)
+}
+
+/// For each production how many of its arguments have no run. A hole is one where a def gives it.
+pub fn counted(alloc: Global, c: &Concrete) -> Result<Vec<u32>, NoMemory> {
+    let mut counting = begun(alloc, c)?;
+    for def in c.defs.as_slice() {
+        counting.reach(def.result)?;
+    }
+    missing(counting, c)
+}
+
+/// For each production how many of its arguments have no run without holes.
+pub fn counted_closed(alloc: Global, c: &Concrete) -> Result<Vec<u32>, NoMemory> {
+    missing(begun(alloc, c)?, c)
 }

@@ -4,7 +4,7 @@
 mod counting;
 mod kept;
 
-use counting::counted;
+use counting::{counted, counted_closed};
 use gft_core::NoMemory;
 use gft_pmcfg::{Abstract, Concrete};
 use std::alloc::Global;
@@ -28,4 +28,15 @@ pub fn unproductive(alloc: Global, c: &Concrete, _abs: &Abstract) -> Result<Opti
         place = place.saturating_add(1);
     }
     Ok(None)
+}
+
+/// For each production whether some tree without holes has it at the root of a run. The time is that of
+/// `reduce`.
+pub fn closed(alloc: Global, c: &Concrete) -> Result<Vec<bool>, NoMemory> {
+    let missing = counted_closed(alloc, c)?;
+    let mut closed = Vec::new(alloc);
+    for count in missing.as_slice() {
+        closed.push(*count == 0)?;
+    }
+    Ok(closed)
 }

@@ -1,0 +1,26 @@
+//! The portable file of a grammar: one grammar has one file, and any other bytes are at fault.
+#![tactic(auto)]
+
+mod cases;
+mod expanding;
+mod fault;
+mod field;
+mod flaws;
+mod groups;
+mod items;
+mod output;
+mod productions;
+mod reading;
+mod reserved;
+mod sequences;
+mod sharing;
+mod signature;
+mod syntax;
+mod table;
+mod terms;
+mod trees;
+mod writing;
+
+pub use fault::{Flaw, ReadErr};
+pub use reading::read;
+pub use writing::write;
