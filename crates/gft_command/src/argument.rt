@@ -84,24 +84,30 @@ fn read_a_tree(alloc: Global, argument: &str) -> Result<Argument, Stop> {
     }
 }
 
-/// Adds the name of a file that can be imported.
-fn push_file(alloc: Global, files: &mut Vec<Text>, word: &Token) -> Result<(), Stop> {
-    if !word.as_str().ends_with(".gf") {
+/// Whether the command takes a file of that name: sources and portable files are imported, portable files
+/// are written.
+fn takes_file(verb: Verb, name: &str) -> bool {
+    name.ends_with(".gft") || (verb == Verb::Import && name.ends_with(".gf"))
+}
+
+/// Adds the name of a file that the command takes.
+fn push_file(alloc: Global, verb: Verb, files: &mut Vec<Text>, word: &Token) -> Result<(), Stop> {
+    if !takes_file(verb, word.as_str()) {
         return Err(stop(alloc, Rule::BadArgument));
     }
     push(files, Text::from_str(alloc, word.as_str())?)?;
     Ok(())
 }
 
-/// One file name or more.
-fn read_files(alloc: Global, argument: &str) -> Result<Argument, Stop> {
+/// One file name or more; one alone of a file that is written.
+fn read_files(alloc: Global, verb: Verb, argument: &str) -> Result<Argument, Stop> {
     let names = words(alloc, argument)?;
-    if names.is_empty() {
+    if names.is_empty() || (verb == Verb::WritePortable && names.len() > 1) {
         return Err(stop(alloc, Rule::BadArgument));
     }
     let mut files = Vec::new(alloc);
     'names: for name in &names {
-        push_file(alloc, &mut files, name)?;
+        push_file(alloc, verb, &mut files, name)?;
     }
     Ok(Argument::Files(files))
 }
@@ -127,7 +133,6 @@ fn read_nothing(alloc: Global, argument: &str) -> Result<Argument, Stop> {
 }
 
 /// The argument of a command, trimmed. A later command of a pipe may be without one whatever it takes.
-/// No portable file is written yet, so each name of one is refused.
 pub fn read_argument(
     alloc: Global,
     verb: Verb,
@@ -138,13 +143,16 @@ pub fn read_argument(
         return Ok(Argument::Nothing);
     }
     match verb {
-        Verb::Import => read_files(alloc, argument),
+        Verb::Import => read_files(alloc, verb, argument),
         Verb::Empty => read_nothing(alloc, argument),
         Verb::Quit => read_nothing(alloc, argument),
         Verb::Parse => read_words(alloc, argument),
         Verb::Linearize => read_a_tree(alloc, argument),
         Verb::Complete => read_words(alloc, argument),
         Verb::AbstractInfo => read_name(alloc, argument),
-        Verb::WritePortable => Err(stop(alloc, Rule::BadArgument)),
+        Verb::WritePortable => read_files(alloc, verb, argument),
+        Verb::GenerateTrees => read_nothing(alloc, argument),
+        Verb::MorphoAnalyse => read_words(alloc, argument),
+        Verb::ContextFree => read_nothing(alloc, argument),
     }
 }

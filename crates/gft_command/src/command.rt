@@ -22,6 +22,8 @@ pub struct Command {
     pub cat: Option<Name>,
     /// From 1 to 64.
     pub depth: Option<u32>,
+    /// Whether strings show in brackets which words are of which part of a tree.
+    pub bracket: bool,
     pub argument: Argument,
 }
 

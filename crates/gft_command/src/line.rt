@@ -18,6 +18,7 @@ fn read_after(alloc: Global, verb: Verb, rest: &str, later: bool) -> Result<Comm
         lang: options.lang,
         cat: options.cat,
         depth: options.depth,
+        bracket: options.bracket,
         argument,
     })
 }
@@ -46,8 +47,12 @@ fn read_commands(alloc: Global, pipe: &str) -> Result<Vec<Command>, Stop> {
     Ok(commands)
 }
 
-/// Whether the command takes what the one before it hands on, and has no argument of its own.
+/// Whether the command takes what the one before it hands on, and has no argument of its own. Strings with
+/// brackets are not handed on.
 fn follows(before: &Command, command: &Command) -> bool {
+    if before.bracket {
+        return false;
+    }
     match command.argument {
         Argument::Nothing => match before.verb.gives() {
             Some(item) => command.verb.takes() == Some(item),

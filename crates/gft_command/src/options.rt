@@ -14,6 +14,7 @@ enum Key {
     Lang,
     Cat,
     Depth,
+    Bracket,
 }
 
 /// The options that are written.
@@ -22,6 +23,7 @@ pub struct Options {
     pub lang: Option<Name>,
     pub cat: Option<Name>,
     pub depth: Option<u32>,
+    pub bracket: bool,
 }
 
 /// The option of that name.
@@ -37,9 +39,12 @@ fn key_of(name: &str) -> Option<Key> {
 /// Whether the command has the option.
 fn has(verb: Verb, key: Key) -> bool {
     match verb {
-        Verb::Parse => true,
+        Verb::Parse => key != Key::Bracket,
         Verb::Linearize => key != Key::Depth,
-        Verb::Complete => key != Key::Depth,
+        Verb::Complete => key == Key::Lang || key == Key::Cat,
+        Verb::GenerateTrees => key == Key::Cat || key == Key::Depth,
+        Verb::MorphoAnalyse => key == Key::Lang,
+        Verb::ContextFree => key == Key::Lang || key == Key::Cat,
         Verb::Import => false,
         Verb::Empty => false,
         Verb::Quit => false,
@@ -48,8 +53,11 @@ fn has(verb: Verb, key: Key) -> bool {
     }
 }
 
-/// The name and the value of `-NAME=VALUE`.
+/// The name and the value of `-NAME=VALUE`; of `-bracket`, which has no value, the empty text.
 fn parts_of(word: &str) -> Option<(Key, &str)> {
+    if word == "-bracket" {
+        return Some((Key::Bracket, ""));
+    }
     let (name, value) = word.strip_prefix('-')?.split_once('=')?;
     Some((key_of(name)?, value))
 }
@@ -105,6 +113,7 @@ impl Options {
             Key::Lang => self.lang.is_some(),
             Key::Cat => self.cat.is_some(),
             Key::Depth => self.depth.is_some(),
+            Key::Bracket => self.bracket,
         }
     }
 
@@ -117,6 +126,7 @@ impl Options {
                 Some(depth) => self.depth = Some(depth),
                 None => return Err(stop_at(alloc, Rule::BadOption, word)),
             },
+            Key::Bracket => self.bracket = true,
         }
         Ok(())
     }
@@ -139,6 +149,7 @@ pub fn read_options(alloc: Global, verb: Verb, text: &str) -> Result<(Options, &
         lang: None,
         cat: None,
         depth: None,
+        bracket: false,
     };
     let mut rest = text;
     'options: for _ in 0..4u8 {

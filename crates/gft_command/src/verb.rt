@@ -11,6 +11,9 @@ pub enum Verb {
     Complete,
     AbstractInfo,
     WritePortable,
+    GenerateTrees,
+    MorphoAnalyse,
+    ContextFree,
 }
 
 /// What one command of a pipe hands to the next.
@@ -31,6 +34,9 @@ pub fn verb_of(name: &str) -> Option<Verb> {
         "complete" => Some(Verb::Complete),
         "abstract_info" | "ai" => Some(Verb::AbstractInfo),
         "write_portable" => Some(Verb::WritePortable),
+        "generate_trees" | "gt" => Some(Verb::GenerateTrees),
+        "morpho_analyse" | "ma" => Some(Verb::MorphoAnalyse),
+        "context_free" | "cf" => Some(Verb::ContextFree),
         _ => None,
     }
 }
@@ -40,6 +46,7 @@ impl Verb {
     pub fn gives(self) -> Option<Item> {
         match self {
             Verb::Parse => Some(Item::Tree),
+            Verb::GenerateTrees => Some(Item::Tree),
             Verb::Linearize => Some(Item::Text),
             Verb::Import => None,
             Verb::Empty => None,
@@ -47,6 +54,8 @@ impl Verb {
             Verb::Complete => None,
             Verb::AbstractInfo => None,
             Verb::WritePortable => None,
+            Verb::MorphoAnalyse => None,
+            Verb::ContextFree => None,
         }
     }
 
@@ -61,6 +70,9 @@ impl Verb {
             Verb::Quit => None,
             Verb::AbstractInfo => None,
             Verb::WritePortable => None,
+            Verb::GenerateTrees => None,
+            Verb::MorphoAnalyse => None,
+            Verb::ContextFree => None,
         }
     }
 }

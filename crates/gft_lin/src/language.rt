@@ -23,6 +23,8 @@ pub struct Language<'a> {
     groups: &'a [Items<u32>],
     defs: &'a [Def],
     refs: &'a [Ref],
+    /// Whether each part of a tree stands in brackets of its own.
+    pub is_bracketed: bool,
 }
 
 /// Whether the first list of numbers comes before the second in the order of files.
@@ -66,6 +68,7 @@ fn function_of<'a>(abs: &'a Abstract, name: &Name) -> Option<(u32, &'a Fun)> {
 }
 
 impl<'a> Language<'a> {
+    /// The language of a grammar whose productions stand singly.
     pub fn plain(abs: &'a Abstract, c: &'a Concrete) -> Language<'a> {
         Language {
             abs,
@@ -75,9 +78,11 @@ impl<'a> Language<'a> {
             groups: &[],
             defs: c.defs.as_slice(),
             refs: c.refs.as_slice(),
+            is_bracketed: false,
         }
     }
 
+    /// The language of a grammar whose productions share their arguments.
     pub fn shared(abs: &'a Abstract, c: &'a Coerced) -> Language<'a> {
         Language {
             abs,
@@ -87,9 +92,19 @@ impl<'a> Language<'a> {
             groups: c.groups.as_slice(),
             defs: c.defs.as_slice(),
             refs: c.refs.as_slice(),
+            is_bracketed: false,
         }
     }
 
+    /// The same language, whose values show in brackets which words are of which part of the tree.
+    pub fn bracketed(self) -> Language<'a> {
+        Language {
+            is_bracketed: true,
+            ..self
+        }
+    }
+
+    /// The function of that name, with its number from 0.
     pub fn function(&self, name: &Name) -> Option<(u32, &'a Fun)> {
         function_of(self.abs, name)
     }

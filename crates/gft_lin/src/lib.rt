@@ -7,7 +7,7 @@ mod members;
 mod value;
 mod walk;
 
-use gft_core::{NoMemory, Token, Tree};
+use gft_core::{NoMemory, Text, Token, Tree};
 use gft_pmcfg::{Abstract, Coerced, Grammar};
 use language::Language;
 use std::alloc::Global;
@@ -59,4 +59,36 @@ pub fn strings_of(
 ) -> Result<Vec<Vec<Token>>, NoMemory> {
     let language = Language::shared(abs, c);
     lines::lines(alloc, &language, cat, tree)
+}
+
+/// The distinct texts of a tree with brackets that show which words are of which part of it, in byte order.
+/// A bracket has the part's head (a function's name, a literal's text, or a hole), then its words and inner
+/// brackets. `cat` is the category of a tree that is one hole.
+pub fn bracketed(
+    alloc: Global,
+    g: &Grammar,
+    lang: u32,
+    cat: u32,
+    tree: &Tree,
+) -> Result<Vec<Text>, NoMemory> {
+    match g.concretes.get(lang as usize) {
+        None => Ok(Vec::new(alloc)), // a language is in range
+        Some(c) => {
+            let language = Language::plain(&g.abs, c).bracketed();
+            lines::texts_of(alloc, &language, cat, tree)
+        }
+    }
+}
+
+/// What `bracketed` gives for the concrete syntax in which each production stands once for each choice of
+/// members of its groups.
+pub fn bracketed_of(
+    alloc: Global,
+    c: &Coerced,
+    abs: &Abstract,
+    cat: u32,
+    tree: &Tree,
+) -> Result<Vec<Text>, NoMemory> {
+    let language = Language::shared(abs, c).bracketed();
+    lines::texts_of(alloc, &language, cat, tree)
 }

@@ -2,7 +2,7 @@
 use crate::language::Language;
 use crate::value::{Value, put};
 use crate::walk::values;
-use gft_core::{NoMemory, Token, Tree, words};
+use gft_core::{NoMemory, Text, Token, Tree, words};
 use std::alloc::Global;
 
 /// Adds the one component of each value of a literal's category.
@@ -50,6 +50,22 @@ fn texts(
         all.dedup();
     }
     Ok(all)
+}
+
+/// The distinct texts of the strings of a tree, in byte order.
+pub fn texts_of(
+    alloc: Global,
+    language: &Language<'_>,
+    cat: u32,
+    tree: &Tree,
+) -> Result<Vec<Text>, NoMemory> {
+    let mut found = Vec::new(alloc);
+    found.push(values(alloc, language, cat, tree)?)?;
+    let mut answer = Vec::new(alloc);
+    for text in texts(alloc, language, found.as_slice())?.as_slice() {
+        answer.push(Text::from_str(alloc, text.as_str())?)?;
+    }
+    Ok(answer)
 }
 
 /// The distinct strings of a tree, in byte order of their texts.

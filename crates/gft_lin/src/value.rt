@@ -55,6 +55,29 @@ pub fn put(
     Ok(text)
 }
 
+/// The text in brackets: a bracket, the head of the part of the tree that it is of, the text, a bracket.
+fn in_brackets(alloc: Global, head: &str, text: &str) -> Result<String, NoMemory> {
+    let mut whole = String::new(alloc);
+    whole.push('(')?;
+    whole.push_str(head)?;
+    append(&mut whole, text)?;
+    whole.push(')')?;
+    Ok(whole)
+}
+
+/// The text of a part of a tree with this head, in brackets where these are asked for.
+pub fn headed(
+    alloc: Global,
+    is_bracketed: bool,
+    head: &str,
+    text: String,
+) -> Result<String, NoMemory> {
+    if !is_bracketed {
+        return Ok(text);
+    }
+    in_brackets(alloc, head, text.as_str())
+}
+
 impl Value {
     /// The value whose one component is this text.
     pub fn of_text(alloc: Global, nonterminal: u32, text: String) -> Result<Value, NoMemory> {

@@ -1,8 +1,9 @@
 //! The distinct values of a tree: those of its subtrees first.
 use crate::language::{Found, Language};
-use crate::value::{Value, distinct, put};
-use gft_core::{Name, NoMemory, Tree};
+use crate::value::{Value, distinct, headed, put};
+use gft_core::{Name, NoMemory, Token, Tree};
 use gft_pmcfg::AType;
+use gft_tree::print;
 use std::alloc::Global;
 
 /// The one value of a literal.
@@ -24,16 +25,55 @@ fn hole_text(alloc: Global, number: u32) -> Result<String, NoMemory> {
     Ok(text)
 }
 
-/// The value that a result gives where the arguments have the picked ones of these values.
+/// The value of a literal of the category, written so in a tree.
+fn word(
+    alloc: Global,
+    language: &Language<'_>,
+    cat: u32,
+    head: &str,
+    text: String,
+) -> Result<Vec<Value>, NoMemory> {
+    literal(
+        alloc,
+        cat,
+        headed(alloc, language.is_bracketed, head, text)?,
+    )
+}
+
+fn integer(alloc: Global, language: &Language<'_>, value: u128) -> Result<Vec<Value>, NoMemory> {
+    let head = number_text(alloc, value)?;
+    word(
+        alloc,
+        language,
+        0,
+        head.as_str(),
+        number_text(alloc, value)?,
+    )
+}
+
+fn string(alloc: Global, language: &Language<'_>, token: &Token) -> Result<Vec<Value>, NoMemory> {
+    let text = String::from_str(alloc, token.as_str())?;
+    if !language.is_bracketed {
+        return literal(alloc, 1, text);
+    }
+    let head = print(alloc, &Tree::Str(token.copy(alloc)?))?;
+    word(alloc, language, 1, head.as_str(), text)
+}
+
+/// The value that a result gives where the arguments have the picked ones of these values; `head` is that
+/// of the tree.
 fn value_of(
     alloc: Global,
+    language: &Language<'_>,
+    head: &str,
     found: Found<'_>,
     kids: &[Vec<Value>],
     picks: &[usize],
 ) -> Result<Value, NoMemory> {
     let mut components = Vec::new(alloc);
     for seq in found.seqs {
-        components.push(put(alloc, seq.get().as_slice(), kids, picks)?)?;
+        let text = put(alloc, seq.get().as_slice(), kids, picks)?;
+        components.push(headed(alloc, language.is_bracketed, head, text)?)?;
     }
     Ok(Value {
         nonterminal: found.result,
@@ -48,15 +88,23 @@ fn hole(
     cat: u32,
     number: u32,
 ) -> Result<Vec<Value>, NoMemory> {
-    let token = literal(alloc, cat, hole_text(alloc, number)?)?;
+    let head = hole_text(alloc, number)?;
+    let text = hole_text(alloc, number)?;
     if cat < 2 {
-        return Ok(token);
+        return word(alloc, language, cat, head.as_str(), text);
     }
     let mut kids = Vec::new(alloc);
-    kids.push(token)?;
+    kids.push(literal(alloc, cat, text)?)?;
     let mut all = Vec::new(alloc);
     for found in language.defs(alloc, cat)?.as_slice() {
-        all.push(value_of(alloc, *found, kids.as_slice(), &[0])?)?;
+        all.push(value_of(
+            alloc,
+            language,
+            head.as_str(),
+            *found,
+            kids.as_slice(),
+            &[0],
+        )?)?;
     }
     distinct(all)
 }
@@ -97,10 +145,12 @@ fn nonterminals(alloc: Global, kids: &[Vec<Value>], picks: &[usize]) -> Result<V
     Ok(all)
 }
 
-/// Adds the values of a function whose arguments have the picked ones of these values.
+/// Adds the values of a function, by its name and number, whose arguments have the picked ones of these
+/// values.
 fn add_results(
     alloc: Global,
     language: &Language<'_>,
+    head: &str,
     fun: u32,
     kids: &[Vec<Value>],
     picks: &[usize],
@@ -108,7 +158,7 @@ fn add_results(
 ) -> Result<(), NoMemory> {
     let args = nonterminals(alloc, kids, picks)?;
     for found in language.results(alloc, fun, args.as_slice())?.as_slice() {
-        all.push(value_of(alloc, *found, kids, picks)?)?;
+        all.push(value_of(alloc, language, head, *found, kids, picks)?)?;
     }
     Ok(())
 }
@@ -117,13 +167,14 @@ fn add_results(
 fn applied(
     alloc: Global,
     language: &Language<'_>,
+    head: &str,
     fun: u32,
     kids: &[Vec<Value>],
 ) -> Result<Vec<Value>, NoMemory> {
     let mut all = Vec::new(alloc);
     for number in 0..choices(kids) {
         let picks = picks_of(alloc, kids, number)?;
-        add_results(alloc, language, fun, kids, picks.as_slice(), &mut all)?;
+        add_results(alloc, language, head, fun, kids, picks.as_slice(), &mut all)?;
     }
     distinct(all)
 }
@@ -159,7 +210,7 @@ fn values_of_application(
         None => Ok(Vec::new(alloc)), // a tree has a skeleton type
         Some((fun, signature)) => {
             let kids = values_of_all(alloc, language, signature.args.as_slice(), trees)?;
-            applied(alloc, language, fun, kids.as_slice())
+            applied(alloc, language, name.as_str(), fun, kids.as_slice())
         }
     }
 }
@@ -174,8 +225,8 @@ pub fn values(
     tree: &Tree,
 ) -> Result<Vec<Value>, NoMemory> {
     match tree {
-        Tree::Int(value) => literal(alloc, 0, number_text(alloc, *value)?),
-        Tree::Str(token) => literal(alloc, 1, String::from_str(alloc, token.as_str())?),
+        Tree::Int(value) => integer(alloc, language, *value),
+        Tree::Str(token) => string(alloc, language, token),
         Tree::Hole(number) => hole(alloc, language, cat, *number),
         Tree::App(name, trees) => { values_of_application(alloc, language, name, trees.as_slice()) }
     }
