@@ -1,19 +1,8 @@
-//! Tests of the crates below, a file for each: that its calls succeed where memory is ample, and with which answer.
+//! Tests of what needs objects in memory: devices that fail, streams at their limits, stores that
+//! tell their files.
 #![tactic(auto)]
 
 #[cfg(test)]
-mod grammars;
-#[cfg(test)]
 mod lines;
 #[cfg(test)]
-mod modules;
-#[cfg(test)]
-mod refusals;
-#[cfg(test)]
 mod sessions;
-#[cfg(test)]
-mod tokens;
-#[cfg(test)]
-mod trees;
-#[cfg(test)]
-mod unification;

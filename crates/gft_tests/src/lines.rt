@@ -1,10 +1,8 @@
 //! Lines, writes and files with each call failing in turn, and at their limits.
-ghost use Rattle.std.specs.Prelude.{None};
-
 use gft_core::Text;
 use gft_io::{
-    Failed, FileStore, LineErr, Lines, LoadErr, MemSink, MemSource, MemStore, ReadSource, Sink,
-    Source, Store, WriteSink, write_all,
+    FileStore, LineErr, Lines, LoadErr, MemSink, MemSource, MemStore, ReadSource, Source, Store,
+    WriteSink, write_all,
 };
 use std::alloc::{AllocError, Global};
 use std::io::Cursor;
@@ -76,83 +74,6 @@ fn each_newline_ends_a_line_and_no_fault_loses_one(rt: HostRuntime) -> Result<()
         let mut source = MemSource::new(text, Vec::from_slice(alloc, failing)?);
         let said = answers(alloc, &mut source, 3)?;
         assert_eq!(rt; said.as_slice(), want);
-    }
-    Ok(())
-}
-
-/// Bytes of lines of 1,023 bytes `x`, from this place on.
-fn write_lines(start: u64, slots: &mut [u8]) {
-    let mut at = start;
-    for slot in slots.iter_mut() {
-        *slot = if at % 1024 == 1023 { b'\n' } else { b'x' };
-        at = at.wrapping_add(1);
-    }
-}
-
-/// A source that holds no bytes: lines of 1,023 bytes `x`.
-#[derive(Drop)]
-struct Endless {
-    left: u64,
-    at: u64,
-    taken: u64,
-}
-
-impl Source for Endless {
-    ghost left = { λ _. None };
-
-    ghost taken = { λ s. s.taken };
-
-    ghost faults = { λ _. 0 };
-
-    fn read(&mut self, buffer: &mut [u8]) -> Result<usize, Failed> {
-        let count = buffer.len().min(self.left.min(1 << 20) as usize);
-        write_lines(self.at, &mut buffer[..count]);
-        self.at = self.at.wrapping_add(count as u64);
-        self.left -= count as u64;
-        self.taken = self.taken.saturating_add(count as u64);
-        Ok(count)
-    }
-}
-
-/// How many lines come before the first other answer, and the two answers from there on.
-fn count_lines(
-    alloc: Global,
-    left: u64,
-    start: u64,
-) -> Result<(u32, Option<LineErr>, Option<LineErr>), Fail> {
-    let mut source = Endless {
-        left,
-        at: start,
-        taken: 0,
-    };
-    let mut lines = Lines::new(alloc)?;
-    for count in 0..100_000 {
-        match lines.next(alloc, &mut source) {
-            Ok(Some(_)) => {}
-            Ok(None) => return Ok((count, None, lines.next(alloc, &mut source).err())),
-            Err(error) => {
-                return Ok((count, Some(error), lines.next(alloc, &mut source).err()));
-            }
-        }
-    }
-    Ok((100_000, None, None))
-}
-
-#[test]
-fn lines_that_end_within_the_limit_are_given(rt: HostRuntime) -> Result<(), Fail> {
-    let limit = Some(LineErr::InputLimit);
-    // Bytes in all, where in a line the first one stands, lines given, and the next two answers.
-    let rows = [
-        (67_108_864, 0, (65_536, None, None)),
-        (67_108_865, 0, (65_536, limit, limit)),
-        (67_108_864, 1, (65_537, None, None)),
-        (67_108_865, 1, (65_536, limit, limit)),
-        // The last newline is the byte past the limit.
-        (67_108_865, 1023, (65_536, limit, limit)),
-    ];
-    for (left, start, want) in rows {
-        let counted = count_lines(rt.alloc(), left, start)?;
-        assert!(rt; counted == want, "{left} {start} {counted:?}");
     }
     Ok(())
 }

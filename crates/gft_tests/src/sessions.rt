@@ -13,27 +13,53 @@ const HELLO_ENG: &str = "concrete HelloEng of Hello = {
 }
 ";
 
-/// How a session over the two files ends, and what it has written, where these calls of its devices
-/// fail.
+const HELLO_ITA: &str = "concrete HelloIta of Hello = {
+  lincat S, X = {s : Str} ;
+  lin Greet x = {s = \"ciao\" ++ x.s} ; World = {s = \"mondo\"} ; Mum = {s = \"mamma\"} ;
+}
+";
+
+/// The calls of each device that fail, by their numbers from 1.
+#[derive(Clone, Copy)]
+struct Faults<'a> {
+    source: &'a [u64],
+    sink: &'a [u64],
+    store: &'a [u64],
+}
+
+/// No call fails.
+const NONE: Faults<'static> = Faults {
+    source: &[],
+    sink: &[],
+    store: &[],
+};
+
+/// How a session over these words behind the program's name and over the three files ends, and what
+/// it has written.
 fn session(
     alloc: Global,
+    names: &[&str],
     input: &str,
-    source_fails: &[u64],
-    sink_fails: &[u64],
-    store_fails: &[u64],
+    faults: &Faults<'_>,
 ) -> Result<(Status, String), Fail> {
     let mut words = Vec::new(alloc);
     words.push(String::from_str(alloc, "gfs")?)?;
-    words.push(String::from_str(alloc, "HelloEng.gf")?)?;
+    for name in names {
+        words.push(String::from_str(alloc, name)?)?;
+    }
     let mut files = Vec::new(alloc);
-    for (name, text) in [("Hello.gf", HELLO), ("HelloEng.gf", HELLO_ENG)] {
+    for (name, text) in [
+        ("Hello.gf", HELLO),
+        ("HelloEng.gf", HELLO_ENG),
+        ("HelloIta.gf", HELLO_ITA),
+    ] {
         let bytes = Vec::from_slice(alloc, text.as_bytes())?;
         files.push((Text::from_str(alloc, name)?, bytes))?;
     }
     let input = Vec::from_slice(alloc, input.as_bytes())?;
-    let mut source = MemSource::new(input, Vec::from_slice(alloc, source_fails)?);
-    let mut sink = MemSink::new(alloc, 200, Vec::from_slice(alloc, sink_fails)?)?;
-    let mut store = MemStore::new(files, Vec::from_slice(alloc, store_fails)?);
+    let mut source = MemSource::new(input, Vec::from_slice(alloc, faults.source)?);
+    let mut sink = MemSink::new(alloc, 400, Vec::from_slice(alloc, faults.sink)?)?;
+    let mut store = MemStore::new(files, Vec::from_slice(alloc, faults.store)?);
     let status = run(alloc, &words, &mut source, &mut sink, &mut store);
     let written = std::str::from_utf8(sink.bytes())?;
     Ok((status, String::from_str(alloc, written)?))
@@ -41,7 +67,7 @@ fn session(
 
 #[test]
 fn the_first_session_is_answered(rt: HostRuntime) -> Result<(), Fail> {
-    let (status, written) = session(rt.alloc(), "l Greet World\n", &[], &[], &[])?;
+    let (status, written) = session(rt.alloc(), &["HelloEng.gf"], "l Greet World\n", &NONE)?;
     assert!(rt; status == Status::Done);
     assert_eq!(rt;
         written.as_str(),
@@ -50,22 +76,22 @@ fn the_first_session_is_answered(rt: HostRuntime) -> Result<(), Fail> {
     Ok(())
 }
 
-/// Six commands, of which the third is blank and the last has no newline.
-const COMMANDS: &str = "l Greet World\nl Greet\n \nl Greet Mum\np World\nl World";
+/// Six lines, of which the third is blank and the last has no newline.
+const LINES: &str = "l Greet World\nl Greet\n \nl Greet Mum\np World\nl World";
 
-/// The replies to the import and to the commands.
+/// The replies to the import and to the lines.
 const REPLIES: [&str; 6] = [
     "grammar Hello languages HelloEng\n",
     "hello world\n",
-    "refused NotBuilt\n",
+    "refused WrongArity: Greet\n",
     "hello mum\n",
-    "refused NotBuilt\n",
+    "refused BadArgument\n",
     "world\n",
 ];
 
-/// The replies to the commands where the session has no grammar.
+/// The replies to the lines where the session has no grammar.
 const REFUSALS: &str =
-    "refused NotBuilt\nrefused NotBuilt\nrefused NotBuilt\nrefused NotBuilt\nrefused NotBuilt\n";
+    "refused NoGrammar\nrefused NoGrammar\nrefused NoGrammar\nrefused BadArgument\nrefused NoGrammar\n";
 
 /// The first replies, one after the other.
 fn first_replies(alloc: Global, count: usize) -> Result<String, Fail> {
@@ -96,8 +122,13 @@ fn a_fault_of_the_source_or_the_sink_ends_a_session_behind_whole_replies(
         (&[], &[6], Status::WriteFault, 5),
         (&[], &[7], Status::SomeRefused, 6),
     ];
-    for (source_fails, sink_fails, status, count) in rows {
-        let (ended, written) = session(alloc, COMMANDS, source_fails, sink_fails, &[])?;
+    for (source, sink, status, count) in rows {
+        let faults = Faults {
+            source,
+            sink,
+            store: &[],
+        };
+        let (ended, written) = session(alloc, &["HelloEng.gf"], LINES, &faults)?;
         assert!(rt; ended == status, "{ended:?}");
         assert_eq!(rt; written.as_str(), first_replies(alloc, count)?.as_str());
     }
@@ -105,19 +136,78 @@ fn a_fault_of_the_source_or_the_sink_ends_a_session_behind_whole_replies(
 }
 
 #[test]
-fn a_fault_of_the_store_refuses_the_import(rt: HostRuntime) -> Result<(), Fail> {
+fn a_fault_of_the_store_refuses_an_import(rt: HostRuntime) -> Result<(), Fail> {
     let alloc = rt.alloc();
-    let rows: [(&[u64], &str); 2] = [
+    let rows: [(&[u64], &str, &str); 3] = [
+        (&[1], "refused CannotRead: HelloEng.gf\n", REFUSALS),
+        (&[2], "refused CannotRead: Hello.gf\n", REFUSALS),
+        (&[3], "grammar Hello languages HelloEng\n", ""),
+    ];
+    for (store, import, others) in rows {
+        let faults = Faults {
+            source: &[],
+            sink: &[],
+            store,
+        };
+        let (ended, written) = session(alloc, &["HelloEng.gf"], LINES, &faults)?;
+        assert!(rt; ended == Status::SomeRefused, "{ended:?}");
+        assert!(rt; written.as_str().starts_with(import));
+        assert!(rt; written.as_str().ends_with(others));
+    }
+    Ok(())
+}
+
+#[test]
+fn an_import_that_a_fault_refused_is_accepted_when_it_comes_again(
+    rt: HostRuntime,
+) -> Result<(), Fail> {
+    let line = "i HelloEng.gf HelloIta.gf\ni HelloEng.gf HelloIta.gf\nl Mum\n";
+    let rows: [(&[u64], &str); 3] = [
         (&[1], "refused CannotRead: HelloEng.gf\n"),
         (&[2], "refused CannotRead: Hello.gf\n"),
+        (&[3], "refused CannotRead: HelloIta.gf\n"),
     ];
-    for (store_fails, import) in rows {
-        let (ended, written) = session(alloc, COMMANDS, &[], &[], store_fails)?;
+    for (store, refusal) in rows {
+        let faults = Faults {
+            source: &[],
+            sink: &[],
+            store,
+        };
+        let (ended, written) = session(rt.alloc(), &[], line, &faults)?;
         assert!(rt; ended == Status::SomeRefused, "{ended:?}");
-        assert_eq!(rt; written.strip_prefix(import), Some(REFUSALS));
+        assert_eq!(rt;
+            written.strip_prefix(refusal),
+            Some("grammar Hello languages HelloEng HelloIta\nmum\nmamma\n")
+        );
     }
-    let (ended, written) = session(alloc, COMMANDS, &[], &[], &[3])?;
-    assert!(rt; ended == Status::SomeRefused, "{ended:?}");
-    assert_eq!(rt; written.as_str(), first_replies(alloc, 6)?.as_str());
+    Ok(())
+}
+
+#[test]
+fn nothing_is_read_or_answered_behind_a_quit(rt: HostRuntime) -> Result<(), Fail> {
+    let faults = Faults {
+        source: &[2],
+        sink: &[3],
+        store: &[],
+    };
+    let (ended, written) = session(
+        rt.alloc(),
+        &["HelloEng.gf"],
+        "l Mum ; q ; l Mum\nl World",
+        &faults,
+    )?;
+    assert!(rt; ended == Status::Done, "{ended:?}");
+    assert_eq!(rt; written.as_str(), "grammar Hello languages HelloEng\nmum\n");
+    Ok(())
+}
+
+#[test]
+fn other_words_get_the_usage_line(rt: HostRuntime) -> Result<(), Fail> {
+    let usage = "usage: gfs [FILE ..] | gfs --make OUT FILE .. | gfs --workload N\n";
+    for words in [["--help", "HelloEng.gf"], ["HelloEng.gf", "-x"]] {
+        let (ended, written) = session(rt.alloc(), &words, LINES, &NONE)?;
+        assert!(rt; ended == Status::Usage, "{ended:?}");
+        assert_eq!(rt; written.as_str(), usage);
+    }
     Ok(())
 }

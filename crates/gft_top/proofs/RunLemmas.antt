@@ -8,13 +8,13 @@ use Rattle.gft_io.specs.Lines.{lines_of, ended_lines, first_line, after_line, li
 use Rattle.gft_io.specs.Place.{Place, start, kept, Pends, Passes}
 use Rattle.gft_io.proofs.CallerLemmas.{Pends-start, length-line_size, first_part, ended_lines-none, ended_lines-short}
 use Rattle.gft_io.proofs.PlaceLemmas.{none-append}
-use Rattle.gft_io.proofs.ToldLemmas.{Told-join}
-use Rattle.gft_top.specs.Session.{Reply, Modules, IsReply}
-use Rattle.gft_top.specs.Run.{AreReplies, none, next, bytes_of, has_refusal}
-use Rattle.gft_top.specs.Ends.{AppendsThenPart, IsHeldUp, IsReplied, IsAnswered, IsBegun, IsBroken, EndWithin, IsReadTo}
+use Rattle.gft_top.specs.Replies.{Reply, IsReply, AreReplies, none, last, next, bytes_of, has_refusal}
+use Rattle.gft_top.specs.Ends.{IsReplied, at_end, at_quit, IsReadPast, IsAnswered, IsBegun, IsBroken, EndWithin, IsReadTo}
+use Rattle.gft_top.specs.Turns.{IsHeldUp}
+use Rattle.gft_top.proofs.ToldLemmas.{nothing_told, both_told, then_same, then_part}
 
 -- the first lines of an input were replied to, and the others are still to be cut
-pub record IsGoing (session : Option Modules) (input : List ℕ) (refused now : Bool) (place : Place) (left held holds : Option (List ℕ)) : Type 0 where
+pub record IsGoing (input : List ℕ) (refused now : Bool) (place : Place) (left held holds : Option (List ℕ)) : Type 0 where
   pub bytes : List ℕ
   pub pends : Pends place left bytes
   pub done : List ℕ
@@ -23,42 +23,8 @@ pub record IsGoing (session : Option Modules) (input : List ℕ) (refused now : 
   pub first : List (List ℕ)
   pub lines : lines_of input ≡ first ++ lines_of bytes
   pub ended : bytes ≢ [] → (more : List ℕ) → ended_lines (done ++ more) ≡ first ++ ended_lines more
-  pub replied : IsReplied session first held holds
+  pub replied : IsReplied first false held holds
   pub flag : now ≡ (refused || has_refusal replied.replies)
-
--- nothing was added
-pub same_told : (o : Option (List ℕ)) → Told Same o o
-same_told None = tt
-same_told (Some xs) = refl
-
-pub nothing_told : (o : Option (List ℕ)) → Told (Appends []) o o
-nothing_told None = tt
-nothing_told (Some xs) = sym (append-nil xs)
-
--- two writes, one after the other
-pub both_told : (a b : List ℕ) (o p q : Option (List ℕ)) → Told (Appends a) o p → Told (Appends b) p q → Told (Appends (a ++ b)) o q
-both_told a b None None None h k = tt
-both_told a b None None (Some q) h k = absurd k
-both_told a b None (Some p) q h k = absurd h
-both_told a b (Some o) None q h k = absurd h
-both_told a b (Some o) (Some p) None h k = absurd k
-both_told a b (Some o) (Some p) (Some q) h k = k ∙ ap (λ t. t ++ b) h ∙ append_assoc o a b
-
-pub then_same : (a : List ℕ) (o p q : Option (List ℕ)) → Told (Appends a) o p → Told Same p q → Told (Appends a) o q
-then_same a None None None h k = tt
-then_same a None None (Some q) h k = absurd k
-then_same a None (Some p) q h k = absurd h
-then_same a (Some o) None q h k = absurd h
-then_same a (Some o) (Some p) None h k = absurd k
-then_same a (Some o) (Some p) (Some q) h k = k ∙ h
-
--- whole pieces, and then a part of one
-pub then_part : (a c : List ℕ) (o p q : Option (List ℕ)) → Told (Appends a) o p → Told (AppendsPart c) p q → Told (AppendsThenPart a c) o q
-then_part a c = Told-join (Appends a) (AppendsPart c) (AppendsThenPart a c) (λ x y z h k. (k.0, k.1, k.2 ∙ ap (λ t. t ++ take k.0 c) h ∙ append_assoc x a (take k.0 c)))
-
-pub after_part : (a b c : List ℕ) (o p q : Option (List ℕ)) → Told (Appends a) o p → Told (AppendsThenPart b c) p q → Told (AppendsThenPart (a ++ b) c) o q
-after_part a b c = Told-join (Appends a) (AppendsThenPart b c) (AppendsThenPart (a ++ b) c)
-    (λ x y z h k. (k.0, k.1, k.2 ∙ ap (λ t. t ++ (b ++ take k.0 c)) h ∙ append_assoc x a (b ++ take k.0 c) ∙ ap (λ t. x ++ t) (sym (append_assoc a b (take k.0 c)))))
 
 or_false : (b : Bool) → (b || false) ≡ b
 or_false true = refl
@@ -68,11 +34,17 @@ or_assoc : (a b c : Bool) → ((a || b) || c) ≡ (a || (b || c))
 or_assoc true b c = refl
 or_assoc false b c = refl
 
+pub bytes_of-append : (xs ys : List Reply) → bytes_of (xs ++ ys) ≡ bytes_of xs ++ bytes_of ys
+bytes_of-append xs ys = flat_map-append (λ (r : Reply). r.text) xs ys
+
+pub has_refusal-append : (xs ys : List Reply) → has_refusal (xs ++ ys) ≡ (has_refusal xs || has_refusal ys)
+has_refusal-append xs ys = list_any-append (λ (r : Reply). r.refused) xs ys
+
 bytes_of-one_more : (replies : List Reply) (reply : Reply) → bytes_of (replies ++ reply ∷ []) ≡ bytes_of replies ++ reply.text
-bytes_of-one_more replies reply = flat_map-append (λ (r : Reply). r.text) replies (reply ∷ []) ∙ ap (λ t. bytes_of replies ++ t) (append-nil reply.text)
+bytes_of-one_more replies reply = bytes_of-append replies (reply ∷ []) ∙ ap (λ t. bytes_of replies ++ t) (append-nil reply.text)
 
 has_refusal-one_more : (replies : List Reply) (reply : Reply) → has_refusal (replies ++ reply ∷ []) ≡ (has_refusal replies || reply.refused)
-has_refusal-one_more replies reply = list_any-append (λ (r : Reply). r.refused) replies (reply ∷ []) ∙ ap (λ b. has_refusal replies || b) (or_false reply.refused)
+has_refusal-one_more replies reply = has_refusal-append replies (reply ∷ []) ∙ ap (λ b. has_refusal replies || b) (or_false reply.refused)
 
 read_out : (new : Place) (left : Option (List ℕ)) → Pends new left [] → left ≡ Some []
 read_out new None p = absurd p
@@ -85,9 +57,8 @@ parts_nil [] ys e = (refl, e)
 parts_nil (x ∷ xs) ys e = cc
 
 -- at the start
-pub going_start : (session : Option Modules) (input : List ℕ) (refused : Bool) (left held : Option (List ℕ)) → left ≡ Some input
-    → IsGoing session input refused refused start left held held
-going_start session input refused left held e = record {
+pub going_start : (input : List ℕ) (refused : Bool) (left held : Option (List ℕ)) → left ≡ Some input → IsGoing input refused refused start left held held
+going_start input refused left held e = record {
   bytes = input;
   pends = subst (λ (o : Option (List ℕ)). Pends start o input) (sym e) (Pends-start input);
   done = [];
@@ -100,46 +71,78 @@ going_start session input refused left held e = record {
   flag = sym (or_false refused);
 }
 
-are_more : (session : Option Modules) (lines : List (List ℕ)) (line : List ℕ) (replies : List Reply) (reply : Reply)
-    → AreReplies session lines replies → IsReply session line reply → AreReplies session (lines ++ line ∷ []) (replies ++ reply ∷ [])
-are_more session [] line [] reply none r = next r none
-are_more session [] line (p ∷ ps) reply h r = elim h [ ]
-are_more session (l ∷ ls) line [] reply h r = elim h [ ]
-are_more session (l ∷ ls) line (p ∷ ps) reply (next q h) r = next q (are_more session ls line ps reply h r)
+-- one more reply, which may end the session
+are_one_more : (line : List ℕ) (reply : Reply) (quit : Bool) → reply.quit ≡ quit → IsReply line reply → AreReplies (line ∷ []) (reply ∷ []) quit
+are_one_more line reply true e r = last r e
+are_one_more line reply false e r = next r e none
 
-module _ (session : Option Modules) (input : List ℕ) (refused now : Bool) (old : Place) (left held holds : Option (List ℕ))
-    (g : IsGoing session input refused now old left held holds) where
+are_more : (lines : List (List ℕ)) (line : List ℕ) (replies : List Reply) (reply : Reply) (quit : Bool)
+    → AreReplies lines replies false → reply.quit ≡ quit → IsReply line reply → AreReplies (lines ++ line ∷ []) (replies ++ reply ∷ []) quit
+are_more [] line [] reply quit h e r = are_one_more line reply quit e r
+are_more [] line (p ∷ ps) reply quit h e r = elim h [ ]
+are_more (l ∷ ls) line [] reply quit h e r = elim h [ ]
+are_more (l ∷ ls) line (p ∷ ps) reply quit (next q n h) e r = next q n (are_more ls line ps reply quit h e r)
+
+module _ (input : List ℕ) (refused now : Bool) (old : Place) (left held holds : Option (List ℕ)) (g : IsGoing input refused now old left held holds) where
   lines_more : (new : Place) (left' : Option (List ℕ)) → Passes old new left' g.bytes
       → lines_of input ≡ (g.first ++ first_line g.bytes ∷ []) ++ lines_of (after_line g.bytes)
   lines_more new left' p = g.lines ∙ ap (λ t. g.first ++ t) p.lines ∙ sym (append_assoc g.first (first_line g.bytes ∷ []) (lines_of (after_line g.bytes)))
 
+  -- the line's reply is written too
+  replied_more : (holds' : Option (List ℕ)) (reply : Reply) (quit : Bool) → reply.quit ≡ quit → IsReply (first_line g.bytes) reply → Told (Appends reply.text) holds holds'
+      → IsReplied (g.first ++ first_line g.bytes ∷ []) quit held holds'
+  replied_more holds' reply quit e r w =
+      let h = g.replied in
+      record {
+        replies = h.replies ++ reply ∷ [];
+        are = are_more g.first (first_line g.bytes) h.replies reply quit h.are e r;
+        written = subst (λ (t : List ℕ). Told (Appends t) held holds') (sym (bytes_of-one_more h.replies reply)) (both_told (bytes_of h.replies) reply.text held holds holds' h.written w);
+      }
+
+  flag_more : (after : Bool) (reply : Reply) → after ≡ (now || reply.refused) → after ≡ (refused || has_refusal (g.replied.replies ++ reply ∷ []))
+  flag_more after reply e =
+      let h = g.replied in
+      e ∙ ap (λ b. b || reply.refused) g.flag ∙ or_assoc refused (has_refusal h.replies) reply.refused ∙ ap (λ b. refused || b) (sym (has_refusal-one_more h.replies reply))
+
+  -- what the line's end says of the lines that end there
+  ended_more : (new : Place) (left' : Option (List ℕ)) → Passes old new left' g.bytes → after_line g.bytes ≢ [] → (more : List ℕ)
+      → ended_lines ((g.done ++ (first_part g.bytes).front) ++ more) ≡ (g.first ++ first_line g.bytes ∷ []) ++ ended_lines more
+  ended_more new left' p some more =
+      let f = first_part g.bytes in
+      ap ended_lines (append_assoc g.done f.front more) ∙ g.ended p.begins (f.front ++ more) ∙ ap (λ t. g.first ++ t) (f.ended some more)
+      ∙ sym (append_assoc g.first (first_line g.bytes ∷ []) (ended_lines more))
+
+  whole_more : input ≡ (g.done ++ (first_part g.bytes).front) ++ after_line g.bytes
+  whole_more =
+      let f = first_part g.bytes in
+      g.whole ∙ ap (λ t. g.done ++ t) f.whole ∙ sym (append_assoc g.done f.front (after_line g.bytes))
+
+  size_more : (new : Place) (left' : Option (List ℕ)) → Passes old new left' g.bytes → length (g.done ++ (first_part g.bytes).front) ≡ new.passed
+  size_more new left' p =
+      let f = first_part g.bytes in
+      omega (arith, length-append g.done f.front, g.size, f.size, p.passed)
+
   -- one more line
   pub going_on : (after : Bool) (new : Place) (left' holds' : Option (List ℕ)) (reply : Reply)
-      → Passes old new left' g.bytes → IsReply session (first_line g.bytes) reply → after ≡ (now || reply.refused) → Told (Appends reply.text) holds holds'
-      → IsGoing session input refused after new left' held holds'
-  going_on after new left' holds' reply p r e w =
+      → Passes old new left' g.bytes → IsReply (first_line g.bytes) reply → reply.quit ≡ false → after ≡ (now || reply.refused) → Told (Appends reply.text) holds holds'
+      → IsGoing input refused after new left' held holds'
+  unfolding replied_more
+  going_on after new left' holds' reply p r q e w =
       let f = first_part g.bytes in
-      let h = g.replied in
       record {
         bytes = after_line g.bytes;
         pends = p.rest;
         done = g.done ++ f.front;
-        whole = g.whole ∙ ap (λ t. g.done ++ t) f.whole ∙ sym (append_assoc g.done f.front (after_line g.bytes));
-        size = omega (arith, length-append g.done f.front, g.size, f.size, p.passed);
+        whole = whole_more;
+        size = size_more new left' p;
         first = g.first ++ first_line g.bytes ∷ [];
         lines = lines_more new left' p;
-        ended = λ some more.
-            ap ended_lines (append_assoc g.done f.front more) ∙ g.ended p.begins (f.front ++ more) ∙ ap (λ t. g.first ++ t) (f.ended some more)
-            ∙ sym (append_assoc g.first (first_line g.bytes ∷ []) (ended_lines more));
-        replied = record {
-          replies = h.replies ++ reply ∷ [];
-          are = are_more session g.first (first_line g.bytes) h.replies reply h.are r;
-          written = subst (λ (t : List ℕ). Told (Appends t) held holds') (sym (bytes_of-one_more h.replies reply)) (both_told (bytes_of h.replies) reply.text held holds holds' h.written w);
-        };
-        flag = e ∙ ap (λ b. b || reply.refused) g.flag ∙ or_assoc refused (has_refusal h.replies) reply.refused ∙ ap (λ b. refused || b) (sym (has_refusal-one_more h.replies reply));
+        ended = ended_more new left' p;
+        replied = replied_more holds' reply false q r w;
+        flag = flag_more after reply e;
       }
 
-  stopped : (holds' : Option (List ℕ)) → Told Same holds holds' → IsReplied session g.first held holds'
+  stopped : (holds' : Option (List ℕ)) → Told Same holds holds' → IsReplied g.first false held holds'
   stopped holds' s = record { replies = g.replied.replies; are = g.replied.are; written = then_same (bytes_of g.replied.replies) held holds holds' g.replied.written s }
 
   all_lines : g.bytes ≡ [] → g.first ≡ lines_of input
@@ -147,25 +150,67 @@ module _ (session : Option Modules) (input : List ℕ) (refused now : Bool) (old
 
   -- at the end of the input
   pub going_end : (new : Place) (left' holds' : Option (List ℕ)) (b : Bool) → g.bytes ≡ [] → Pends new left' [] → old.passed ≤ input_limit
-      → Told Same holds holds' → now ≡ b → IsAnswered session input refused held holds' left' b
+      → Told Same holds holds' → now ≡ b → IsAnswered input refused held holds' left' b
   going_end new left' holds' b e p w s f = record {
+    lines = lines_of input;
+    quit = false;
+    read = at_end (read_out new left' p) (let l : length g.bytes ≡ 0 = ap length e in omega (arith, l, ap length g.whole, length-append g.done g.bytes, g.size, w));
     replied = record {
       replies = g.replied.replies;
-      are = subst (λ (ls : List (List ℕ)). AreReplies session ls g.replied.replies) (all_lines e) g.replied.are;
+      are = subst (λ (ls : List (List ℕ)). AreReplies ls g.replied.replies false) (all_lines e) g.replied.are;
       written = then_same (bytes_of g.replied.replies) held holds holds' g.replied.written s;
     };
     flag = sym g.flag ∙ f;
-    read = read_out new left' p;
-    within = let l : length g.bytes ≡ 0 = ap length e in omega (arith, l, ap length g.whole, length-append g.done g.bytes, g.size, w);
+  }
+
+  -- where the line is the last, or a newline ended it
+  ends_past : (new : Place) (left' : Option (List ℕ)) (ahead rest bytes : List ℕ) → Passes old new left' g.bytes → after_line g.bytes ≡ bytes → bytes ≡ ahead ++ rest
+      → EndWithin (g.done ++ (first_part g.bytes).front) (ahead ++ rest) (g.first ++ first_line g.bytes ∷ [])
+  ends_past new left' ahead rest [] p e h =
+      inr (
+        sym h,
+        sym (append-nil (g.first ++ first_line g.bytes ∷ [])) ∙ ap (λ (t : List ℕ). (g.first ++ first_line g.bytes ∷ []) ++ lines_of t) (sym e) ∙ sym (lines_more new left' p)
+            ∙ ap lines_of (whole_more ∙ ap (λ t. (g.done ++ (first_part g.bytes).front) ++ t) e ∙ append-nil (g.done ++ (first_part g.bytes).front)),
+      )
+  ends_past new left' ahead rest (b ∷ bytes) p e h =
+      let passed = g.done ++ (first_part g.bytes).front in
+      let all = ended_more new left' p (λ z. cc) [] in
+      inl (sym (ap ended_lines (sym (append-nil passed)) ∙ all ∙ append-nil (g.first ++ first_line g.bytes ∷ [])))
+
+  read_past : (new : Place) (left' : Option (List ℕ)) → Passes old new left' g.bytes → IsReadPast input left' (g.first ++ first_line g.bytes ∷ [])
+  read_past new None p = absurd p.rest
+  read_past new (Some rest) p =
+      let ahead = p.rest.0 in
+      record {
+        passed = g.done ++ (first_part g.bytes).front;
+        ahead = ahead;
+        rest = rest;
+        whole = whole_more ∙ ap (λ t. (g.done ++ (first_part g.bytes).front) ++ t) p.rest.2;
+        remains = refl;
+        within = omega (arith, size_more new (Some rest) p, p.passed, p.within);
+        end = ends_past new (Some rest) ahead rest (after_line g.bytes) p refl p.rest.2;
+      }
+
+  -- where the reply ends the session
+  pub going_quit : (b : Bool) (new : Place) (left' holds' : Option (List ℕ)) (reply : Reply)
+      → Passes old new left' g.bytes → IsReply (first_line g.bytes) reply → reply.quit ≡ true → (now || reply.refused) ≡ b → Told (Appends reply.text) holds holds'
+      → IsAnswered input refused held holds' left' b
+  unfolding replied_more
+  going_quit b new left' holds' reply p r q e w = record {
+    lines = g.first ++ first_line g.bytes ∷ [];
+    quit = true;
+    read = at_quit (lines_of (after_line g.bytes)) (lines_more new left' p) (read_past new left' p);
+    replied = replied_more holds' reply true q r w;
+    flag = sym (flag_more b reply (sym e));
   }
 
   -- where memory ran out
-  pub going_stop : (holds' : Option (List ℕ)) → Told Same holds holds' → IsBegun session input held holds'
+  pub going_stop : (holds' : Option (List ℕ)) → Told Same holds holds' → IsBegun input held holds'
   going_stop holds' s = record { first = g.first; others = lines_of g.bytes; lines = g.lines; replied = stopped holds' s }
 
   -- where the next line ends past the limit
   pub going_late : (holds' : Option (List ℕ)) → old.passed ≤ input_limit → input_limit < old.passed + line_size g.bytes → Told Same holds holds'
-      → (input_limit < length input) × IsReplied session (ended_lines (take input_limit input)) held holds'
+      → (input_limit < length input) × IsReplied (ended_lines (take input_limit input)) false held holds'
   going_late holds' w h s =
       let n = input_limit - old.passed in
       let at : input_limit ≡ length g.done + n = omega (arith, g.size, w) in
@@ -176,7 +221,7 @@ module _ (session : Option Modules) (input : List ℕ) (refused now : Bool) (old
       let same : g.first ≡ ended_lines (take input_limit input) =
       sym (ap ended_lines cut ∙ g.ended some (take n g.bytes) ∙ ap (λ t. g.first ++ t) short ∙ append-nil g.first) in (
         omega (arith, h, length-line_size g.bytes, ap length g.whole, length-append g.done g.bytes, g.size),
-        subst (λ (ls : List (List ℕ)). IsReplied session ls held holds') same (stopped holds' s),
+        subst (λ (ls : List (List ℕ)). IsReplied ls false held holds') same (stopped holds' s),
       )
 
   ends_within : (taken rest bytes : List ℕ) → g.bytes ≡ bytes → bytes ≡ taken ++ rest → HasNoNewline taken → EndWithin (g.done ++ taken) rest g.first
@@ -205,18 +250,19 @@ module _ (session : Option Modules) (input : List ℕ) (refused now : Bool) (old
 
   -- where the source failed
   pub going_failed : (new : Place) (left' holds' : Option (List ℕ)) → IsHeldUp old new left' g.bytes → Told Same holds holds'
-      → (lines : List (List ℕ)) × IsReadTo input left' lines × IsReplied session lines held holds'
+      → (lines : List (List ℕ)) × IsReadTo input left' lines × IsReplied lines false held holds'
   going_failed new left' holds' h s = (g.first, read_to new left' h, stopped holds' s)
 
   -- where the sink failed
-  pub going_broken : (new : Place) (left' holds' : Option (List ℕ)) (reply : Reply) → Passes old new left' g.bytes → IsReply session (first_line g.bytes) reply
-      → Told (AppendsPart reply.text) holds holds' → IsBroken session input held holds'
+  pub going_broken : (new : Place) (left' holds' : Option (List ℕ)) (reply : Reply) → Passes old new left' g.bytes → IsReply (first_line g.bytes) reply
+      → Told (AppendsPart reply.text) holds holds' → IsBroken input held holds'
   going_broken new left' holds' reply p r w = record {
     first = g.first ++ first_line g.bytes ∷ [];
     others = lines_of (after_line g.bytes);
     lines = lines_more new left' p;
     replies = g.replied.replies;
     last = reply;
-    are = are_more session g.first (first_line g.bytes) g.replied.replies reply g.replied.are r;
+    quit = reply.quit;
+    are = are_more g.first (first_line g.bytes) g.replied.replies reply reply.quit g.replied.are refl r;
     written = then_part (bytes_of g.replied.replies) reply.text held holds holds' g.replied.written w;
   }

@@ -1,116 +1,21 @@
--- How a session goes on line by line, and how it may end.
-use Rattle.std.specs.Prelude.{◌≡◌, ◌⊎◌, ℕ, ◌+◌, ◌<◌, ◌≤◌, Bool, true, false, ◌||◌, List, [], ◌∷◌, ◌++◌, length, take, Option, Some, None, Result, Ok, Err, codes}
-use Rattle.gft_io.specs.Outside.{Files, Rose, Told, Same, Appends, AppendsPart, raised}
-use Rattle.gft_io.specs.Lines.{lines_of, ended_lines, first_line, line_size, input_limit, HasNoNewline}
-use Rattle.gft_io.specs.Place.{Place, kept, count, Pends, Passes}
+-- How a session may end, and what is written then.
+use Rattle.std.specs.Prelude.{◌≡◌, ◌⊎◌, ℕ, ◌<◌, ◌≤◌, Bool, true, false, ◌||◌, List, [], ◌∷◌, ◌++◌, length, take, Option, Some}
+use Rattle.gft_io.specs.Outside.{Rose, Told, Same, Appends, AppendsPart, raised}
+use Rattle.gft_io.specs.Lines.{lines_of, ended_lines, input_limit}
 use Rattle.gft_top.specs.declared.running.Status.{Status}
-use Rattle.gft_top.specs.declared.running.Status.TheVariants.{Done, SomeRefused, Usage, WriteFault}
-use Rattle.gft_io.specs.declared.lines.LineErr.{LineErr}
-use Rattle.gft_io.specs.declared.lines.LineErr.TheVariants.{ReadFault, InputLimit, LineTooLong, NoMemory}
-use Rattle.std.specs.declared.vec.Vec.{Vec}
-use Rattle.std.specs.declared.alloc.Global.{Global}
-use Rattle.gft_top.specs.declared.reply.Reply as code
-use Rattle.gft_top.specs.Seen.{reply_of}
-use Rattle.gft_top.specs.declared.running.Turn.{Turn}
-use Rattle.gft_top.specs.declared.running.Turn.TheVariants.{Replied, Ended}
-use Rattle.gft_top.specs.Session.{Reply, Modules, IsReply, plain_refusal}
-use Rattle.gft_top.specs.Run.{AreReplies, IsOutput, bytes_of, has_refusal, usage_line}
+use Rattle.gft_top.specs.declared.running.Status.TheVariants.{Done, SomeRefused, Usage, ReadFault, WriteFault, NoMemory, InputLimit}
+use Rattle.gft_top.specs.Words.{usage_line}
+use Rattle.gft_top.specs.Replies.{Reply, AreReplies, Begins, bytes_of, has_refusal}
 
 -- these bytes were added at the end, and then the first of those, but not all
 abbrev pub AppendsThenPart : List ℕ → List ℕ → List ℕ → List ℕ → Type 0
 AppendsThenPart whole cut old new = (n : ℕ) × (n < length cut) × (new ≡ old ++ (whole ++ take n cut))
 
--- what the writing of a reply did: it is written, or the sink's faults rose and some front of it is written
-abbrev pub Puts : Reply → Option (List ℕ) → Option (List ℕ) → ℕ → ℕ → Turn → Type 0
-Puts reply old new before after (Replied refused) = (refused ≡ reply.refused) × Told (Appends reply.text) old new
-Puts reply old new before after (Ended status) = (status ≡ WriteFault) × Rose before after × Told (AppendsPart reply.text) old new
-
--- a turn that replied passed some bytes
-abbrev pub Advances : Place → Place → Turn → Type 0
-Advances old new (Replied refused) = old.passed < new.passed
-Advances old new (Ended status) = Unit {0}
-
--- the causes of an end, over any source and any sink
-abbrev pub HasCause : Place → ℕ → ℕ → ℕ → ℕ → Turn → Type 0
-HasCause new before after sink_before sink_after (Replied refused) = Unit {0}
-HasCause new before after sink_before sink_after (Ended Done) = Unit {0}
-HasCause new before after sink_before sink_after (Ended SomeRefused) = ⊥
-HasCause new before after sink_before sink_after (Ended Usage) = ⊥
-HasCause new before after sink_before sink_after (Ended Status.ReadFault) = Rose before after
-HasCause new before after sink_before sink_after (Ended WriteFault) = Rose sink_before sink_after
-HasCause new before after sink_before sink_after (Ended Status.NoMemory) = Unit {0}
-HasCause new before after sink_before sink_after (Ended Status.InputLimit) = input_limit < count new
-
--- what is replied to a line, or how the run ends where there is none
-abbrev pub Responds : Option Modules → Result (Option (Vec ℕ Global)) LineErr → Result code.Reply Status → Type 0
-Responds session (Ok (Some line)) (Ok reply) = IsReply session line.items (reply_of reply)
-Responds session (Ok None) (Ok reply) = ⊥
-Responds session (Err LineTooLong) (Ok reply) = reply_of reply ≡ plain_refusal (codes "LineTooLong")
-Responds session (Err InputLimit) (Ok reply) = ⊥
-Responds session (Err ReadFault) (Ok reply) = ⊥
-Responds session (Err NoMemory) (Ok reply) = ⊥
-Responds session (Ok (Some line)) (Err status) = status ≡ Status.NoMemory
-Responds session (Ok None) (Err status) = status ≡ Done
-Responds session (Err LineTooLong) (Err status) = status ≡ Status.NoMemory
-Responds session (Err InputLimit) (Err status) = status ≡ Status.InputLimit
-Responds session (Err ReadFault) (Err status) = status ≡ Status.ReadFault
-Responds session (Err NoMemory) (Err status) = status ≡ Status.NoMemory
-
--- the source failed: these bytes are still to be cut, of which those that were taken have no newline
-pub record IsHeldUp (old new : Place) (left : Option (List ℕ)) (bytes : List ℕ) : Type 0 where
-  pub pends : Pends new left bytes
-  pub passed : new.passed ≡ old.passed
-  pub unended : HasNoNewline (kept new)
-  pub within : count new ≤ input_limit
-
--- what a turn did where these bytes are still to be cut into lines
-abbrev pub TurnsTold : Option Modules → Place → Place → Option (List ℕ) → Option (List ℕ) → Option (List ℕ) → List ℕ → Turn
-    → Type 0
-TurnsTold session old new left held holds bytes (Replied refused) =
-    Passes old new left bytes
-    × ((reply : Reply) × IsReply session (first_line bytes) reply × (refused ≡ reply.refused)
-    × Told (Appends reply.text) held holds)
-TurnsTold session old new left held holds bytes (Ended Done) = (bytes ≡ []) × Pends new left [] × Told Same held holds
-TurnsTold session old new left held holds bytes (Ended SomeRefused) = ⊥
-TurnsTold session old new left held holds bytes (Ended Usage) = ⊥
-TurnsTold session old new left held holds bytes (Ended Status.ReadFault) = IsHeldUp old new left bytes × Told Same held holds
-TurnsTold session old new left held holds bytes (Ended WriteFault) =
-    Passes old new left bytes
-    × ((reply : Reply) × IsReply session (first_line bytes) reply × Told (AppendsPart reply.text) held holds)
-TurnsTold session old new left held holds bytes (Ended Status.NoMemory) = Told Same held holds
-TurnsTold session old new left held holds bytes (Ended Status.InputLimit) =
-    (input_limit < old.passed + line_size bytes) × Told Same held holds
-
--- these lines were replied to, each whole
-pub record IsReplied (session : Option Modules) (lines : List (List ℕ)) (held holds : Option (List ℕ)) : Type 0 where
+-- these lines were replied to, each whole, and whether the last reply ends the session
+pub record IsReplied (lines : List (List ℕ)) (quit : Bool) (held holds : Option (List ℕ)) : Type 0 where
   pub replies : List Reply
-  pub are : AreReplies session lines replies
+  pub are : AreReplies lines replies quit
   pub written : Told (Appends (bytes_of replies)) held holds
-
--- all lines of the input were replied to, and the input was read to its end
-pub record IsAnswered (session : Option Modules) (input : List ℕ) (refused : Bool) (held holds left : Option (List ℕ))
-    (some_refused : Bool) : Type 0 where
-  pub replied : IsReplied session (lines_of input) held holds
-  pub flag : (refused || has_refusal replied.replies) ≡ some_refused
-  pub read : left ≡ Some []
-  pub within : length input ≤ input_limit
-
--- the first of the lines were replied to, each whole
-pub record IsBegun (session : Option Modules) (input : List ℕ) (held holds : Option (List ℕ)) : Type 0 where
-  pub first : List (List ℕ)
-  pub others : List (List ℕ)
-  pub lines : lines_of input ≡ first ++ others
-  pub replied : IsReplied session first held holds
-
--- the first of the lines were replied to, and the reply to the last of these was written in part
-pub record IsBroken (session : Option Modules) (input : List ℕ) (held holds : Option (List ℕ)) : Type 0 where
-  pub first : List (List ℕ)
-  pub others : List (List ℕ)
-  pub lines : lines_of input ≡ first ++ others
-  pub replies : List Reply
-  pub last : Reply
-  pub are : AreReplies session first (replies ++ last ∷ [])
-  pub written : Told (AppendsThenPart (bytes_of replies) last.text) held holds
 
 -- the lines that end within the bytes that were taken, where those bytes are left: each with a newline, or the last one at
 -- the end of the input, once that was seen
@@ -126,112 +31,171 @@ pub record IsReadTo (input : List ℕ) (left : Option (List ℕ)) (lines : List 
   pub within : length taken ≤ input_limit
   pub end : EndWithin taken rest lines
 
--- the end of a run at the end of its input, where some reply was a refusal or none was
-abbrev pub flagged : Bool → Status → Status
-flagged true Done = SomeRefused
-flagged true SomeRefused = SomeRefused
-flagged true Usage = Usage
-flagged true Status.ReadFault = Status.ReadFault
-flagged true WriteFault = WriteFault
-flagged true Status.NoMemory = Status.NoMemory
-flagged true Status.InputLimit = Status.InputLimit
-flagged false status = status
+-- these are the lines that end within the first bytes of the input, and what was read ahead of those is not looked at
+pub record IsReadPast (input : List ℕ) (left : Option (List ℕ)) (lines : List (List ℕ)) : Type 0 where
+  pub passed : List ℕ
+  pub ahead : List ℕ
+  pub rest : List ℕ
+  pub whole : input ≡ passed ++ (ahead ++ rest)
+  pub remains : left ≡ Some rest
+  pub within : length passed ≤ input_limit
+  pub end : EndWithin passed (ahead ++ rest) lines
 
--- how the replies to an input end
-abbrev pub LinesTold : Option Modules → List ℕ → Bool → Option (List ℕ) → Option (List ℕ) → Option (List ℕ) → Status → Type 0
-LinesTold session input refused held holds left Done = IsAnswered session input refused held holds left false
-LinesTold session input refused held holds left SomeRefused = IsAnswered session input refused held holds left true
-LinesTold session input refused held holds left Usage = ⊥
-LinesTold session input refused held holds left Status.ReadFault =
-    (lines : List (List ℕ)) × IsReadTo input left lines × IsReplied session lines held holds
-LinesTold session input refused held holds left WriteFault = IsBroken session input held holds
-LinesTold session input refused held holds left Status.NoMemory = IsBegun session input held holds
-LinesTold session input refused held holds left Status.InputLimit =
-    (input_limit < length input) × IsReplied session (ended_lines (take input_limit input)) held holds
+-- the lines of a session that came to its end: all, where the input was read to its end, or those up to one that ends it
+pub data IsReadOut (input : List ℕ) (left : Option (List ℕ)) : List (List ℕ) → Bool → Type 0 where
+  at_end : left ≡ Some [] → length input ≤ input_limit → IsReadOut input left (lines_of input) false
+  at_quit : {lines : List (List ℕ)} (others : List (List ℕ)) → lines_of input ≡ lines ++ others → IsReadPast input left lines
+      → IsReadOut input left lines true
+
+-- the session came to its end: to each of its lines there is a whole reply
+pub record IsAnswered (input : List ℕ) (refused : Bool) (held holds left : Option (List ℕ)) (some_refused : Bool) : Type 0 where
+  pub lines : List (List ℕ)
+  pub quit : Bool
+  pub read : IsReadOut input left lines quit
+  pub replied : IsReplied lines quit held holds
+  pub flag : (refused || has_refusal replied.replies) ≡ some_refused
+
+-- the first of the lines were replied to, each whole, and none of the replies ends the session
+pub record IsBegun (input : List ℕ) (held holds : Option (List ℕ)) : Type 0 where
+  pub first : List (List ℕ)
+  pub others : List (List ℕ)
+  pub lines : lines_of input ≡ first ++ others
+  pub replied : IsReplied first false held holds
+
+-- the first of the lines were replied to, and the reply to the last of these was written in part
+pub record IsBroken (input : List ℕ) (held holds : Option (List ℕ)) : Type 0 where
+  pub first : List (List ℕ)
+  pub others : List (List ℕ)
+  pub lines : lines_of input ≡ first ++ others
+  pub replies : List Reply
+  pub last : Reply
+  pub quit : Bool
+  pub are : AreReplies first (replies ++ last ∷ []) quit
+  pub written : Told (AppendsThenPart (bytes_of replies) last.text) held holds
+
+-- how the replies to an input end, where some reply before was a refusal or none was
+abbrev pub LinesTold : List ℕ → Bool → Option (List ℕ) → Option (List ℕ) → Option (List ℕ) → Status → Type 0
+LinesTold input refused held holds left Done = IsAnswered input refused held holds left false
+LinesTold input refused held holds left SomeRefused = IsAnswered input refused held holds left true
+LinesTold input refused held holds left Usage = ⊥
+LinesTold input refused held holds left ReadFault =
+    (lines : List (List ℕ)) × IsReadTo input left lines × IsReplied lines false held holds
+LinesTold input refused held holds left WriteFault = IsBroken input held holds
+LinesTold input refused held holds left NoMemory = IsBegun input held holds
+LinesTold input refused held holds left InputLimit =
+    (input_limit < length input) × IsReplied (ended_lines (take input_limit input)) false held holds
 
 -- the causes of an end, over any source and any sink
 abbrev pub LinesAny : ℕ → ℕ → ℕ → ℕ → ℕ → ℕ → Status → Type 0
 LinesAny before after sink_before sink_after taken_before taken_after Done = Unit {0}
 LinesAny before after sink_before sink_after taken_before taken_after SomeRefused = Unit {0}
 LinesAny before after sink_before sink_after taken_before taken_after Usage = ⊥
-LinesAny before after sink_before sink_after taken_before taken_after Status.ReadFault = Rose before after
+LinesAny before after sink_before sink_after taken_before taken_after ReadFault = Rose before after
 LinesAny before after sink_before sink_after taken_before taken_after WriteFault = Rose sink_before sink_after
-LinesAny before after sink_before sink_after taken_before taken_after Status.NoMemory = Unit {0}
-LinesAny before after sink_before sink_after taken_before taken_after Status.InputLimit =
+LinesAny before after sink_before sink_after taken_before taken_after NoMemory = Unit {0}
+LinesAny before after sink_before sink_after taken_before taken_after InputLimit =
     (n : ℕ) × (input_limit < n) × (taken_after ≡ raised taken_before n)
 
--- the replies of a session over that file and these lines were written, each whole
-pub record IsWritten (Faulted : Type 0) (files : Files) (file : List ℕ) (lines : List (List ℕ)) (held holds : Option (List ℕ))
-    : Type 0 where
+-- the replies of a session over those files and to these lines were written, each whole
+pub record IsWritten (files lines : List (List ℕ)) (quit : Bool) (held holds : Option (List ℕ)) : Type 0 where
+  pub first : List Reply
   pub replies : List Reply
-  pub are : IsOutput Faulted files file lines replies
-  pub written : Told (Appends (bytes_of replies)) held holds
+  pub begin : Begins files first
+  pub are : AreReplies lines replies quit
+  pub written : Told (Appends (bytes_of (first ++ replies))) held holds
 
--- a whole session: what was written, and whether some reply is a refusal
-pub record IsWhole (Faulted : Type 0) (files : Files) (file input : List ℕ) (held holds left : Option (List ℕ))
-    (some_refused : Bool) : Type 0 where
-  pub output : IsWritten Faulted files file (lines_of input) held holds
-  pub flag : has_refusal output.replies ≡ some_refused
-  pub read : left ≡ Some []
-  pub within : length input ≤ input_limit
+-- a whole session: what was written, and whether some reply holds a refusal
+pub record IsWhole (files : List (List ℕ)) (input : List ℕ) (held holds left : Option (List ℕ)) (some_refused : Bool) : Type 0 where
+  pub lines : List (List ℕ)
+  pub quit : Bool
+  pub read : IsReadOut input left lines quit
+  pub output : IsWritten files lines quit held holds
+  pub flag : has_refusal (output.first ++ output.replies) ≡ some_refused
 
 -- what a session without memory had written: nothing, or the replies to the import and to the first lines, each whole
-pub data IsPart (Faulted : Type 0) (files : Files) (file input : List ℕ) (held holds : Option (List ℕ)) : Type 0 where
-  nothing : Told Same held holds → IsPart Faulted files file input held holds
-  some : (first others : List (List ℕ)) → lines_of input ≡ first ++ others
-      → IsWritten Faulted files file first held holds → IsPart Faulted files file input held holds
+pub data IsPart (files : List (List ℕ)) (input : List ℕ) (held holds : Option (List ℕ)) : Type 0 where
+  nothing : Told Same held holds → IsPart files input held holds
+  some : (first others : List (List ℕ)) → lines_of input ≡ first ++ others → IsWritten files first false held holds
+      → IsPart files input held holds
 
--- what a session with a fault of the sink had written: of the replies to the import and to the first lines each whole but the
--- last, and that in part
-pub record IsCutOff (Faulted : Type 0) (files : Files) (file input : List ℕ) (held holds : Option (List ℕ)) : Type 0 where
-  pub first : List (List ℕ)
-  pub others : List (List ℕ)
-  pub lines : lines_of input ≡ first ++ others
-  pub replies : List Reply
-  pub last : Reply
-  pub are : IsOutput Faulted files file first (replies ++ last ∷ [])
-  pub written : Told (AppendsThenPart (bytes_of replies) last.text) held holds
+-- what a session with a fault of the sink had written: the import's reply in part, or that and the replies to the first
+-- lines, each whole but the last, and that in part
+pub data IsCutOff (files : List (List ℕ)) (input : List ℕ) (held holds : Option (List ℕ)) : Type 0 where
+  at_import : (imported : Reply) → Begins files (imported ∷ []) → Told (AppendsThenPart [] imported.text) held holds
+      → IsCutOff files input held holds
+  at_line : (first others : List (List ℕ)) → lines_of input ≡ first ++ others → (before replies : List Reply) (last : Reply) (quit : Bool)
+      → Begins files before → AreReplies first (replies ++ last ∷ []) quit
+      → Told (AppendsThenPart (bytes_of (before ++ replies)) last.text) held holds → IsCutOff files input held holds
 
--- how a session over that file and this input ends
-abbrev pub SessionTold : Type 0 → Files → List ℕ → List ℕ → Option (List ℕ) → Option (List ℕ) → Option (List ℕ) → Status → Type 0
-SessionTold Faulted files file input held holds left Done = IsWhole Faulted files file input held holds left false
-SessionTold Faulted files file input held holds left SomeRefused = IsWhole Faulted files file input held holds left true
-SessionTold Faulted files file input held holds left Usage = ⊥
-SessionTold Faulted files file input held holds left Status.ReadFault =
-    (lines : List (List ℕ)) × IsReadTo input left lines × IsWritten Faulted files file lines held holds
-SessionTold Faulted files file input held holds left WriteFault = IsCutOff Faulted files file input held holds
-SessionTold Faulted files file input held holds left Status.NoMemory = IsPart Faulted files file input held holds
-SessionTold Faulted files file input held holds left Status.InputLimit =
-    (input_limit < length input) × IsWritten Faulted files file (ended_lines (take input_limit input)) held holds
+-- how a session over those files and this input ends
+abbrev pub SessionTold : List (List ℕ) → List ℕ → Option (List ℕ) → Option (List ℕ) → Option (List ℕ) → Status → Type 0
+SessionTold files input held holds left Done = IsWhole files input held holds left false
+SessionTold files input held holds left SomeRefused = IsWhole files input held holds left true
+SessionTold files input held holds left Usage = ⊥
+SessionTold files input held holds left ReadFault =
+    (lines : List (List ℕ)) × IsReadTo input left lines × IsWritten files lines false held holds
+SessionTold files input held holds left WriteFault = IsCutOff files input held holds
+SessionTold files input held holds left NoMemory = IsPart files input held holds
+SessionTold files input held holds left InputLimit =
+    (input_limit < length input) × IsWritten files (ended_lines (take input_limit input)) false held holds
 
--- how a wrong call ends
+-- how the last reply of a run ends it: it is written
+abbrev pub ReplyTold : Option (List ℕ) → Option (List ℕ) → Status → Type 0
+ReplyTold held holds Done = (reply : Reply) × (reply.refused ≡ false) × Told (Appends reply.text) held holds
+ReplyTold held holds SomeRefused = (reply : Reply) × (reply.refused ≡ true) × Told (Appends reply.text) held holds
+ReplyTold held holds Usage = ⊥
+ReplyTold held holds ReadFault = ⊥
+ReplyTold held holds WriteFault = (reply : Reply) × Told (AppendsPart reply.text) held holds
+ReplyTold held holds NoMemory = Told Same held holds
+ReplyTold held holds InputLimit = ⊥
+
+-- how the making of a portable file ends: the import's reply and, where that is no refusal, the file's, were written
+abbrev pub MakeTold : List (List ℕ) → Option (List ℕ) → Option (List ℕ) → Status → Type 0
+MakeTold files held holds Done =
+    (first : List Reply) × Begins files first × (has_refusal first ≡ false)
+    × ((saved : Reply) × (saved.refused ≡ false) × Told (Appends (bytes_of first ++ saved.text)) held holds)
+MakeTold files held holds SomeRefused =
+    (first : List Reply) × Begins files first
+    × (((has_refusal first ≡ true) × Told (Appends (bytes_of first)) held holds)
+    ⊎ ((has_refusal first ≡ false)
+    × ((saved : Reply) × (saved.refused ≡ true) × Told (Appends (bytes_of first ++ saved.text)) held holds)))
+MakeTold files held holds Usage = ⊥
+MakeTold files held holds ReadFault = ⊥
+MakeTold files held holds WriteFault =
+    ((imported : Reply) × Begins files (imported ∷ []) × Told (AppendsThenPart [] imported.text) held holds)
+    ⊎ ((first : List Reply) × Begins files first × (has_refusal first ≡ false)
+    × ((saved : Reply) × Told (AppendsThenPart (bytes_of first) saved.text) held holds))
+MakeTold files held holds NoMemory =
+    Told Same held holds
+    ⊎ ((first : List Reply) × Begins files first × (has_refusal first ≡ false) × Told (Appends (bytes_of first)) held holds)
+MakeTold files held holds InputLimit = ⊥
+
+-- the causes of its end, over any sink
+abbrev pub ReplyAny : ℕ → ℕ → Status → Type 0
+ReplyAny before after Done = Unit {0}
+ReplyAny before after SomeRefused = Unit {0}
+ReplyAny before after Usage = ⊥
+ReplyAny before after ReadFault = ⊥
+ReplyAny before after WriteFault = Rose before after
+ReplyAny before after NoMemory = Unit {0}
+ReplyAny before after InputLimit = ⊥
+
+-- how a wrong call ends: its line is written, or a front of that
 abbrev pub UsageTold : Option (List ℕ) → Option (List ℕ) → Status → Type 0
 UsageTold held holds Done = ⊥
 UsageTold held holds SomeRefused = ⊥
 UsageTold held holds Usage = Told (Appends usage_line) held holds
-UsageTold held holds Status.ReadFault = ⊥
+UsageTold held holds ReadFault = ⊥
 UsageTold held holds WriteFault = Told (AppendsPart usage_line) held holds
-UsageTold held holds Status.NoMemory = ⊥
-UsageTold held holds Status.InputLimit = ⊥
+UsageTold held holds NoMemory = ⊥
+UsageTold held holds InputLimit = ⊥
 
--- how a run ends: a session over its file, or a wrong call
-abbrev pub RunTold : Type 0 → Files → Option (List ℕ) → List ℕ → Option (List ℕ) → Option (List ℕ) → Option (List ℕ) → Status
-    → Type 0
-RunTold Faulted files (Some file) input held holds left status = SessionTold Faulted files file input held holds left status
-RunTold Faulted files None input held holds left status = UsageTold held holds status
-
--- the causes of the end of a wrong call
+-- the causes of its end
 abbrev pub UsageAny : ℕ → ℕ → Status → Type 0
-UsageAny sink_before sink_after Done = ⊥
-UsageAny sink_before sink_after SomeRefused = ⊥
-UsageAny sink_before sink_after Usage = Unit {0}
-UsageAny sink_before sink_after Status.ReadFault = ⊥
-UsageAny sink_before sink_after WriteFault = Rose sink_before sink_after
-UsageAny sink_before sink_after Status.NoMemory = ⊥
-UsageAny sink_before sink_after Status.InputLimit = ⊥
-
--- the causes of the end of a run, over any source and any sink
-abbrev pub RunAny : Option (List ℕ) → ℕ → ℕ → ℕ → ℕ → ℕ → ℕ → Status → Type 0
-RunAny (Some file) before after sink_before sink_after taken_before taken_after status =
-    LinesAny before after sink_before sink_after taken_before taken_after status
-RunAny None before after sink_before sink_after taken_before taken_after status = UsageAny sink_before sink_after status
+UsageAny before after Done = ⊥
+UsageAny before after SomeRefused = ⊥
+UsageAny before after Usage = Unit {0}
+UsageAny before after ReadFault = ⊥
+UsageAny before after WriteFault = Rose before after
+UsageAny before after NoMemory = ⊥
+UsageAny before after InputLimit = ⊥

@@ -1,20 +1,21 @@
 //! A whole run of the program.
-ghost use Rattle.std.specs.Prelude.{◌≡◌, ◌-◌, ◌≤◌, ℕ, List, Some, map, string_bytes, IfOk, IfSome};
-ghost use Rattle.std.specs.Option.{option_map, option_copied};
-ghost use Rattle.gft_io.specs.Outside.{Files, Rose, Told, Same, raised};
-ghost use Rattle.gft_io.specs.Lines.{input_limit, IsLine};
+ghost use Rattle.std.specs.Prelude.{◌≡◌, ◌+◌, ◌-◌, ◌<◌, ◌≤◌, ◌++◌, ℕ, List, Some, length, map, string_bytes};
+ghost use Rattle.gft_io.specs.Outside.{raised, Rose};
+ghost use Rattle.gft_io.specs.Lines.{input_limit};
 ghost use Rattle.gft_io.specs.Place.{count, Pends};
-ghost use Rattle.gft_top.specs.Seen.{reply_of, modules_of};
-ghost use Rattle.gft_top.specs.Run.{session_file, ImportedOnce, AnsweredOnce};
-ghost use Rattle.gft_top.specs.Ends.{Puts, Responds, flagged, TurnsTold, Advances, HasCause, LinesTold, LinesAny, SessionTold, RunTold, RunAny};
+ghost use Rattle.gft_top.specs.Words.{call_of};
+ghost use Rattle.gft_top.specs.Turns.{reply_of, Puts, Responds, flagged, TurnsTold, Advances, HasCause, Starts};
+ghost use Rattle.gft_top.specs.Ends.{LinesTold, LinesAny, SessionTold, UsageTold, ReplyTold, ReplyAny};
+ghost use Rattle.gft_top.specs.Asking.{files_of};
+ghost use Rattle.gft_top.specs.Headline.{RunTold, RunAny};
 
-use crate::answer::answer;
-use crate::grammar::Grammar;
-use crate::importing::import_file;
-use crate::reply::{Reply, line_refusal};
-use gft_core::NoMemory;
+use crate::make::make;
+use crate::reply::{Reply, too_long};
+use crate::words::{Asked, Files, files_of, read_words};
+use crate::workload::workload;
+use gft_core::{NoMemory, Text};
 use gft_io::{Failed, LineErr, Lines, Sink, Source, Store, write_all};
-use gft_tree::tree_is_spelled_once;
+use gft_shell::Session;
 use std::alloc::Global;
 
 /// How a run ended: as the exit status of the program `Done` is 0, and each next one is one more.
@@ -40,58 +41,54 @@ impl From<NoMemory> for Status {
     }
 }
 
-/// What one turn of a session did: it replied to a line, by a refusal or not, or the run has ended.
+/// What one turn of a session did: it replied, by a refusal or not, and the session goes on or was
+/// quit, or the run has ended.
 #[derive(Clone, Copy)]
 pub enum Turn {
     Replied(bool),
+    Quit(bool),
     Ended(Status),
 }
 
 /// The line of a wrong call.
 const USAGE: &[u8] = b"usage: gfs [FILE ..] | gfs --make OUT FILE .. | gfs --workload N\n";
 
-/// The file of a session, where the words are the program's name and one file that does not begin with
-/// a hyphen.
-fn session_file(words: &[String]) -> Option<&str>
-    ensures { option_copied result ≡ session_file (map string_bytes words.now) }
-{
-    match words {
-        [_, file] => {
-            if file.as_bytes().starts_with(b"-") {
-                None
-            } else {
-                Some(file.as_str())
-            }
-        }
-        _ => None,
-    }
-}
-
 /// Writes a reply whole; one without bytes is not written.
-fn put<K: Sink>(sink: &mut K, reply: &Reply) -> Turn
+pub fn put<K: Sink>(sink: &mut K, reply: &Reply) -> Turn
     ensures puts { Puts (reply_of reply.now) (K.holds sink.old) (K.holds sink.new)
         (K.faults sink.old) (K.faults sink.new) result }
     ensures faults { K.faults sink.old ≤ K.faults sink.new }
 {
     match write_all(sink, &reply.text) {
+        Ok(()) if reply.quit => Turn::Quit(reply.refused),
         Ok(()) => Turn::Replied(reply.refused),
         Err(Failed) => Turn::Ended(Status::WriteFault),
     }
 }
 
-/// The reply to a line, or how the run ends where there is none.
-fn respond(
+/// The reply of the session to a line.
+fn step<F: Store>(
     alloc: Global,
-    grammar: &Option<Grammar>,
+    session: &mut Session,
+    store: &mut F,
+    line: &Vec<u8>,
+) -> Result<Reply, NoMemory> {
+    Ok(Reply::of(session.step(alloc, line, store)?))
+}
+
+/// The reply to a line, or how the run ends where there is none.
+fn respond<F: Store>(
+    alloc: Global,
+    session: &mut Session,
+    store: &mut F,
     found: Result<Option<Vec<u8>>, LineErr>,
 ) -> Result<Reply, Status>
-    requires { IfOk found (λ line. IfSome line (λ bytes. IsLine bytes.items)) }
-    ensures { Responds (option_map modules_of grammar.now) found result }
+    ensures { Responds found result }
 {
     match found {
-        Ok(Some(line)) => Ok(answer(alloc, grammar, &line)?),
+        Ok(Some(line)) => Ok(step(alloc, session, store, &line)?),
         Ok(None) => Err(Status::Done),
-        Err(LineErr::LineTooLong) => Ok(line_refusal(alloc, "LineTooLong")?),
+        Err(LineErr::LineTooLong) => Ok(too_long(alloc)?),
         Err(LineErr::ReadFault) => Err(Status::ReadFault),
         Err(LineErr::InputLimit) => Err(Status::InputLimit),
         Err(LineErr::NoMemory) => Err(Status::NoMemory),
@@ -99,16 +96,17 @@ fn respond(
 }
 
 /// Reads one line and replies to it.
-fn take_turn<S: Source, K: Sink>(
+fn take_turn<S: Source, K: Sink, F: Store>(
     alloc: Global,
-    grammar: &Option<Grammar>,
+    session: &mut Session,
     lines: &mut Lines,
     source: &mut S,
     sink: &mut K,
+    store: &mut F,
 ) -> Turn
     ensures told { (bytes : List ℕ) → Pends lines.old (S.left source.old) bytes
-        → TurnsTold (option_map modules_of grammar.now) lines.old lines.new (S.left source.new)
-        (K.holds sink.old) (K.holds sink.new) bytes result }
+        → TurnsTold lines.old lines.new (S.left source.new) (K.holds sink.old) (K.holds sink.new)
+        bytes result }
     ensures advances { Advances lines.old lines.new result }
     ensures cause { HasCause lines.new (S.faults source.old) (S.faults source.new)
         (K.faults sink.old) (K.faults sink.new) result }
@@ -120,14 +118,14 @@ fn take_turn<S: Source, K: Sink>(
     ensures sink_faults { K.faults sink.old ≤ K.faults sink.new }
 {
     let found = lines.next(alloc, source);
-    match respond(alloc, grammar, found) {
+    match respond(alloc, session, store, found) {
         Ok(reply) => put(sink, &reply),
         Err(status) => Turn::Ended(status),
     }
 }
 
-/// The end of a run at the end of its input, where some reply was a refusal or none was.
-fn flagged(status: Status, refused: bool) -> Status
+/// The end of a run at the end of its session, where some reply was a refusal or none was.
+pub fn flagged(status: Status, refused: bool) -> Status
     ensures { result ≡ flagged refused status }
 {
     match status {
@@ -136,17 +134,30 @@ fn flagged(status: Status, refused: bool) -> Status
     }
 }
 
-/// Replies to each line of the source, to its end.
-fn replies<S: Source, K: Sink>(
+/// Writes the last reply of a run, which ends with it.
+pub fn finish<K: Sink>(sink: &mut K, reply: &Reply) -> Status
+    ensures told { ReplyTold (K.holds sink.old) (K.holds sink.new) result }
+    ensures any { ReplyAny (K.faults sink.old) (K.faults sink.new) result }
+{
+    match put(sink, reply) {
+        Turn::Replied(refused) => flagged(Status::Done, refused),
+        Turn::Quit(refused) => flagged(Status::Done, refused),
+        Turn::Ended(status) => status,
+    }
+}
+
+/// Replies to each line of the source, to its end or to one that ends the session.
+fn replies<S: Source, K: Sink, F: Store>(
     alloc: Global,
-    grammar: &Option<Grammar>,
+    session: &mut Session,
     refused: bool,
     source: &mut S,
     sink: &mut K,
+    store: &mut F,
 ) -> Status
     ensures told { (input : List ℕ) → S.left source.old ≡ Some input
-        → LinesTold (option_map modules_of grammar.now) input refused (K.holds sink.old)
-        (K.holds sink.new) (S.left source.new) result }
+        → LinesTold input refused (K.holds sink.old) (K.holds sink.new) (S.left source.new)
+        result }
     ensures any { LinesAny (S.faults source.old) (S.faults source.new) (K.faults sink.old)
         (K.faults sink.new) (S.taken source.old) (S.taken source.new) result }
     ensures faults { S.faults source.old ≤ S.faults source.new }
@@ -157,41 +168,109 @@ fn replies<S: Source, K: Sink>(
     };
     let mut refused = refused;
     'lines: loop {
-        match take_turn(alloc, grammar, &mut lines, source, sink) {
+        match take_turn(alloc, session, &mut lines, source, sink, store) {
             Turn::Replied(now) => refused = refused || now,
+            Turn::Quit(now) => return flagged(Status::Done, refused || now),
             Turn::Ended(status) => return flagged(status, refused),
         }
     }
 }
 
-/// Imports the file and replies to the lines of the source.
-fn session<S: Source, K: Sink, F: Store>(
+/// The reply of the session to the import of the files.
+fn import<F: Store>(
     alloc: Global,
-    file: &str,
+    session: &mut Session,
+    files: &Vec<Text>,
+    store: &mut F,
+) -> Result<Reply, NoMemory>
+    requires { 0 < length files.now.items }
+{
+    Ok(Reply::of(session.import(alloc, files, store)?))
+}
+
+/// Imports the files, where there are any, and writes the reply; it answers whether that is a
+/// refusal.
+pub fn begin<K: Sink, F: Store>(
+    alloc: Global,
+    session: &mut Session,
+    files: &Vec<Text>,
+    sink: &mut K,
+    store: &mut F,
+) -> Result<bool, Status>
+    ensures starts { Starts files.now.items (K.holds sink.old) (K.holds sink.new)
+        (K.faults sink.old) (K.faults sink.new) result }
+    ensures faults { K.faults sink.old ≤ K.faults sink.new }
+{
+    if files.is_empty() {
+        return Ok(false);
+    }
+    let reply = import(alloc, session, files, store)?;
+    match put(sink, &reply) {
+        Turn::Replied(refused) => Ok(refused),
+        Turn::Quit(refused) => Ok(refused),
+        Turn::Ended(status) => Err(status),
+    }
+}
+
+/// Imports the files, where there are any, and replies to the lines of the source.
+fn serve<S: Source, K: Sink, F: Store>(
+    alloc: Global,
+    session: &mut Session,
+    files: &Vec<Text>,
     source: &mut S,
     sink: &mut K,
     store: &mut F,
 ) -> Status
-    ensures told { (input : List ℕ) (files : Files) → S.left source.old ≡ Some input
-        → F.files store.old ≡ Some files
-        → SessionTold (Rose (F.faults store.old) (F.faults store.new)) files file.now input
-        (K.holds sink.old) (K.holds sink.new) (S.left source.new) result }
+    ensures told { (input : List ℕ) → S.left source.old ≡ Some input
+        → SessionTold files.now.items input (K.holds sink.old) (K.holds sink.new)
+        (S.left source.new) result }
     ensures any { LinesAny (S.faults source.old) (S.faults source.new) (K.faults sink.old)
         (K.faults sink.new) (S.taken source.old) (S.taken source.new) result }
-    ensures keeps { Told Same (F.files store.old) (F.files store.new) }
 {
-    let Ok(imported) = import_file(alloc, store, file) else {
-        return Status::NoMemory;
-    };
-    match put(sink, &imported.reply) {
-        Turn::Replied(refused) => replies(alloc, &imported.grammar, refused, source, sink),
-        Turn::Ended(status) => status,
+    match begin(alloc, session, files, sink, store) {
+        Ok(refused) => replies(alloc, session, refused, source, sink, store),
+        Err(status) => status,
     }
 }
 
-/// A run of the program over the words of its call, an input, an output and a store of files. The first
-/// word is the program's name. Time is linear in the files, in the input and in what is written; kept are
-/// the grammar and one line.
+/// A session over the files that the words name.
+fn session<S: Source, K: Sink, F: Store>(
+    alloc: Global,
+    named: Files<'_>,
+    source: &mut S,
+    sink: &mut K,
+    store: &mut F,
+) -> Status
+    ensures told { (input : List ℕ) → S.left source.old ≡ Some input
+        → SessionTold (files_of named.entry) input (K.holds sink.old) (K.holds sink.new)
+        (S.left source.new) result }
+    ensures any { LinesAny (S.faults source.old) (S.faults source.new) (K.faults sink.old)
+        (K.faults sink.new) (S.taken source.old) (S.taken source.new) result }
+{
+    let Ok(files) = files_of(alloc, named) else {
+        return Status::NoMemory;
+    };
+    let mut session = Session::new();
+    serve(alloc, &mut session, &files, source, sink, store)
+}
+
+/// The end of a wrong call, whose line is written.
+fn usage<K: Sink>(sink: &mut K) -> Status
+    ensures told { UsageTold (K.holds sink.old) (K.holds sink.new) result }
+    ensures failed { result ≡ Status.WriteFault → Rose (K.faults sink.old) (K.faults sink.new) }
+{
+    match write_all(sink, USAGE) {
+        Ok(()) => Status::Usage,
+        Err(Failed) => Status::WriteFault,
+    }
+}
+
+/// A run of the program over the words of its call, an input, an output and a store of files. The
+/// first word is the program's name. The others are files to import, and then each line of the
+/// input is a command line of the session, to the end of the input or to one that quits; or, with
+/// `--make OUT`, files of which the portable file OUT is made; or `--workload N` asks for the
+/// workload of N sentences. A word that begins with a hyphen and is longer is a file only behind
+/// the word `--`. Kept are the session and one line.
 pub fn run<S: Source, K: Sink, F: Store>(
     alloc: Global,
     words: &Vec<String>,
@@ -199,32 +278,20 @@ pub fn run<S: Source, K: Sink, F: Store>(
     sink: &mut K,
     store: &mut F,
 ) -> Status
-    // Over a source that tells what it has left, and a store that tells its files.
-    ensures told { (input : List ℕ) (files : Files) → S.left source.old ≡ Some input
-        → F.files store.old ≡ Some files
-        → RunTold (Rose (F.faults store.old) (F.faults store.new)) files
-        (session_file (map string_bytes words.now.items)) input
+    // Over a source that tells what it has left.
+    ensures told { (input : List ℕ) → S.left source.old ≡ Some input
+        → RunTold (call_of (map string_bytes words.now.items)) input
         (K.holds sink.old) (K.holds sink.new) (S.left source.new) result }
 
     // Over any source, sink and store.
-    ensures any { RunAny (session_file (map string_bytes words.now.items)) (S.faults source.old)
+    ensures any { RunAny (call_of (map string_bytes words.now.items)) (S.faults source.old)
         (S.faults source.new) (K.faults sink.old) (K.faults sink.new) (S.taken source.old)
         (S.taken source.new) result }
-    ensures keeps { Told Same (F.files store.old) (F.files store.new) }
 {
-    match session_file(words) {
-        Some(file) => session(alloc, file, source, sink, store),
-        None => match write_all(sink, USAGE) {
-            Ok(()) => Status::Usage,
-            Err(Failed) => Status::WriteFault,
-        },
+    match read_words(words) {
+        None => usage(sink),
+        Some(Asked::Session(named)) => session(alloc, named, source, sink, store),
+        Some(Asked::Make(out, named)) => make(alloc, out, named, sink, store),
+        Some(Asked::Workload(count)) => workload(alloc, count, sink),
     }
-}
-
-/// The files, the file's name and the lines of a session determine what is written.
-pub fn answered_once()
-    ensures of_import { ImportedOnce }
-    ensures of_output { AnsweredOnce }
-{
-    tree_is_spelled_once();
 }

@@ -1,9 +1,7 @@
 use Rattle.std.proofs.Common.{◌≡◌, ◌≤◌, ◌+◌, ◌-◌, ℕ, List, Some}
-use Rattle.std.specs.Option.{option_map}
 use Rattle.gft_io.specs.Outside.{raised}
 use Rattle.gft_io.specs.Lines.{input_limit}
 use Rattle.gft_io.specs.Place.{count}
-use Rattle.gft_top.specs.Seen.{modules_of}
 use Rattle.gft_top.proofs.RunLemmas.{IsGoing}
 use Rattle.gft_top.proofs.running.replies.Given as goal
 
@@ -13,7 +11,7 @@ invariant-lines g l =
     let source = g.S.Source in
     let sink = g.K.Sink in
     ((input : List ℕ) → source.left l.initial.source ≡ Some input
-    → IsGoing (option_map modules_of l.grammar) input l.initial.refused l.refused l.lines (source.left l.source) (sink.holds l.initial.sink) (sink.holds l.sink))
+    → IsGoing input l.initial.refused l.refused l.lines (source.left l.source) (sink.holds l.initial.sink) (sink.holds l.sink))
     × (l.lines.passed ≤ input_limit)
     × (source.taken l.source ≡ raised (source.taken l.initial.source) (count l.lines))
     × (source.faults l.initial.source ≤ source.faults l.source)

@@ -1,0 +1,1 @@
+pub use rstd::indexed::{Equivalent, IndexMap, IndexSet};

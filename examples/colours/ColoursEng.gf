@@ -1,0 +1,1 @@
+concrete ColoursEng of Colours = ColoursI with (Words = WordsEng)

@@ -1,0 +1,1 @@
+concrete ColoursFre of Colours = ColoursI with (Words = WordsFre)

@@ -1,1 +1,0 @@
-abstract Hullo = {cat S ; X ; fun Greet : X -> S ; World, Mum : X ;}

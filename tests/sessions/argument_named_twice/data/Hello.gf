@@ -1,1 +1,0 @@
-abstract Hello = {cat S ; X ; fun Meet : X -> X -> S ; World, Mum : X ;}

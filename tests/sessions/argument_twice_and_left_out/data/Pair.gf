@@ -1,1 +1,0 @@
-abstract Pair = {cat S ; X ; fun Of : X -> X -> S ; A, B : X ;}

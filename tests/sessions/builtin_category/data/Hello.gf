@@ -1,1 +1,0 @@
-abstract Hello = {cat S ; X ; String ; fun Greet : X -> S ; World, Mum : X ;}

@@ -1,1 +1,0 @@
-abstract Void = {cat S ; fun Empty : S ; Some, Quiet : S -> S ;}

@@ -1,1 +1,0 @@
-abstract A_1'={cat C0';fun f':C0'->C0';_a:C0';}

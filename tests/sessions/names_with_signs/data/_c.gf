@@ -1,1 +1,0 @@
-concrete _c of A_1'={lincat C0'={s:Str};lin f' s={s=s.s++"y"};_a={s="x"};}

@@ -1,1 +1,0 @@
-abstract List = {cat L ; E ; fun Add : E -> L -> L ; End : L ; One, Two : E ;}

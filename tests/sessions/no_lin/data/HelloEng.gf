@@ -1,4 +1,0 @@
-concrete HelloEng of Hello = {
-  lincat S, X = {s : Str} ;
-  lin Greet x = {s = "hello" ++ x.s} ; World = {s = "world"} ;
-}

@@ -1,1 +1,0 @@
-abstract Hello = {cat S ; X ; fun table : X -> S ; World, Mum : X ;}

@@ -1,1 +1,0 @@
-abstract Hello = {cat S ; X ; fun Greet : Y -> S ; World, Mum : X ;}

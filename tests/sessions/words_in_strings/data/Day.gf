@@ -1,1 +1,0 @@
-abstract Day = {cat S ; X ; fun Morning : X -> S ; Two, Nothing, Tab : S ; World : X ;}
