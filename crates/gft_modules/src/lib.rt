@@ -4,9 +4,13 @@
 mod clashes;
 mod declared;
 mod first;
+mod gathering;
+mod giving;
 mod headers;
+mod hidden;
 mod inheriting;
 mod kinds;
+mod known;
 mod names;
 mod numbers;
 mod ordering;

@@ -25,17 +25,19 @@ fn listed_names<'a>(alloc: Global, names: &'a [PlacedName]) -> Result<IndexSet<&
 }
 
 impl<'a> Restriction<'a> {
+    /// It lets every name through. It takes no memory.
+    pub fn none(alloc: Global) -> Restriction<'a> {
+        Restriction {
+            listed: IndexSet::new(alloc),
+            is_whole: true,
+            is_only: false,
+        }
+    }
+
     /// The restriction that the header writes.
     pub fn new(alloc: Global, inherited: &'a Inherited) -> Result<Restriction<'a>, NoMemory> {
         match inherited {
-            Inherited::Whole(_) => {
-                let listed = IndexSet::new(alloc);
-                Ok(Restriction {
-                    listed,
-                    is_whole: true,
-                    is_only: false,
-                })
-            }
+            Inherited::Whole(_) => Ok(Restriction::none(alloc)),
             Inherited::Only(_, names) => {
                 let listed = listed_names(alloc, names.as_slice())?;
                 Ok(Restriction {
