@@ -54,7 +54,7 @@ fn is_headed(prod: &Prod, fun: u32, args: &[u32]) -> bool {
 }
 
 /// The function of this name, with its number. Functions stand in byte order of their names.
-fn function_of<'a>(abs: &'a Abstract, name: &Name) -> Option<(u32, &'a Fun)> {
+pub fn function_of<'a>(abs: &'a Abstract, name: &Name) -> Option<(u32, &'a Fun)> {
     let funs = abs.funs.as_slice();
     let text = name.as_str();
     let at = funs.partition_point(|fun| fun.name.as_str() < text);

@@ -1,14 +1,19 @@
 //! The strings of a tree, by the productions of a concrete syntax.
 #![tactic(auto)]
 
+mod functions;
+mod index;
 mod language;
 mod lines;
 mod members;
+mod parts;
 mod value;
 mod walk;
 
+pub use functions::functions_of;
 use gft_core::{NoMemory, Text, Token, Tree};
 use gft_pmcfg::{Abstract, Coerced, Grammar};
+pub use index::Index;
 use language::Language;
 use std::alloc::Global;
 
@@ -59,6 +64,30 @@ pub fn strings_of(
 ) -> Result<Vec<Vec<Token>>, NoMemory> {
     let language = Language::shared(abs, c);
     lines::lines(alloc, &language, cat, tree)
+}
+
+/// The distinct texts of the strings of a tree, in byte order: those of `strings_of`, each as one text.
+pub fn texts_of(
+    alloc: Global,
+    c: &Coerced,
+    abs: &Abstract,
+    cat: u32,
+    tree: &Tree,
+) -> Result<Vec<Text>, NoMemory> {
+    let language = Language::shared(abs, c);
+    lines::texts_of(alloc, &language, cat, tree)
+}
+
+/// What `texts_of` gives for the tree with these functions, each after those of its arguments, over the index
+/// of the concrete syntax. None where some part has no production or several, so that only `texts_of` says the
+/// tree. The time is that of the tree and of the words of the texts times the depth.
+pub fn texts_of_functions(
+    alloc: Global,
+    c: &Coerced,
+    index: &Index,
+    functions: &[u32],
+) -> Result<Option<Vec<Text>>, NoMemory> {
+    lines::texts_of_parts(alloc, c, index, functions)
 }
 
 /// The distinct texts of a tree with brackets that show which words are of which part of it, in byte order.

@@ -1,8 +1,11 @@
 //! The strings and the cells of a tree, from the texts of its values.
+use crate::index::Index;
 use crate::language::Language;
+use crate::parts::strings_of_parts;
 use crate::value::{Value, put};
 use crate::walk::values;
 use gft_core::{NoMemory, Text, Token, Tree, words};
+use gft_pmcfg::Coerced;
 use std::alloc::Global;
 
 /// Adds the one component of each value of a literal's category.
@@ -45,11 +48,24 @@ fn texts(
             place = place.saturating_add(1);
         }
     }
+    distinct(all)
+}
+
+/// Each text once, in order.
+fn distinct(mut all: Vec<String>) -> Result<Vec<String>, NoMemory> {
     if all.len() > 1 {
         all.sort()?;
         all.dedup();
     }
     Ok(all)
+}
+
+fn as_texts(alloc: Global, all: &[String]) -> Result<Vec<Text>, NoMemory> {
+    let mut answer = Vec::new(alloc);
+    for text in all {
+        answer.push(Text::from_str(alloc, text.as_str())?)?;
+    }
+    Ok(answer)
 }
 
 /// The distinct texts of the strings of a tree, in byte order.
@@ -61,11 +77,21 @@ pub fn texts_of(
 ) -> Result<Vec<Text>, NoMemory> {
     let mut found = Vec::new(alloc);
     found.push(values(alloc, language, cat, tree)?)?;
-    let mut answer = Vec::new(alloc);
-    for text in texts(alloc, language, found.as_slice())?.as_slice() {
-        answer.push(Text::from_str(alloc, text.as_str())?)?;
+    as_texts(alloc, texts(alloc, language, found.as_slice())?.as_slice())
+}
+
+/// The distinct texts of the strings of the tree with these functions, in byte order. None where some part
+/// has no production or several.
+pub fn texts_of_parts(
+    alloc: Global,
+    c: &Coerced,
+    index: &Index,
+    functions: &[u32],
+) -> Result<Option<Vec<Text>>, NoMemory> {
+    match strings_of_parts(alloc, c, index, functions)? {
+        None => Ok(None),
+        Some(all) => Ok(Some(as_texts(alloc, distinct(all)?.as_slice())?)),
     }
-    Ok(answer)
 }
 
 /// The distinct strings of a tree, in byte order of their texts.

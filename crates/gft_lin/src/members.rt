@@ -6,9 +6,9 @@ use std::alloc::Global;
 
 /// The productions from one place to another.
 #[derive(Clone, Copy)]
-struct Range {
-    from: usize,
-    to: usize,
+pub struct Range {
+    pub from: usize,
+    pub to: usize,
 }
 
 /// Where an argument stands in the order of productions: a nonterminal before each group.
@@ -50,7 +50,7 @@ fn first_from(shared: &[CProd], range: Range, place: usize, key: Key) -> usize {
 }
 
 /// Whether the nonterminal is a member of the group, by halving.
-fn is_member(groups: &[Items<u32>], group: u64, nonterminal: u32) -> bool {
+pub fn is_member(groups: &[Items<u32>], group: u64, nonterminal: u32) -> bool {
     match groups.get(group as usize) {
         None => false, // a group is in range
         Some(members) => {
@@ -109,18 +109,16 @@ fn narrow(
     Ok(())
 }
 
-/// The ranges whose arguments may be these nonterminals, of those of the function.
-fn ranges(
+/// The parts of the range whose arguments may be these nonterminals.
+pub fn ranges_in(
     alloc: Global,
     shared: &[CProd],
     groups: &[Items<u32>],
-    fun: u32,
+    range: Range,
     args: &[u32],
 ) -> Result<Vec<Range>, NoMemory> {
     let mut all = Vec::new(alloc);
-    let from = shared.partition_point(|prod| prod.fun < fun);
-    let to = shared.partition_point(|prod| prod.fun <= fun);
-    all.push(Range { from, to })?;
+    all.push(range)?;
     let mut place = 0usize;
     for nonterminal in args {
         let mut narrower = Vec::new(alloc);
@@ -131,6 +129,14 @@ fn ranges(
         place = place.saturating_add(1);
     }
     Ok(all)
+}
+
+/// The productions of a function.
+fn range_of(shared: &[CProd], fun: u32) -> Range {
+    Range {
+        from: shared.partition_point(|prod| prod.fun < fun),
+        to: shared.partition_point(|prod| prod.fun <= fun),
+    }
 }
 
 /// The places of the productions of the function whose arguments may be these nonterminals.
@@ -145,7 +151,8 @@ pub fn matching(
     if shared.is_empty() {
         return Ok(places);
     }
-    for range in ranges(alloc, shared, groups, fun, args)?.as_slice() {
+    let range = range_of(shared, fun);
+    for range in ranges_in(alloc, shared, groups, range, args)?.as_slice() {
         for at in range.from..range.to {
             places.push(at)?;
         }

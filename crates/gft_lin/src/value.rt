@@ -11,7 +11,7 @@ pub struct Value {
 }
 
 /// Appends a text, after a space where both are not empty.
-fn append(text: &mut String, more: &str) -> Result<(), NoMemory> {
+pub fn append(text: &mut String, more: &str) -> Result<(), NoMemory> {
     if more.is_empty() {
         return Ok(());
     }
