@@ -10,11 +10,11 @@ fn shared_sequences(
     alloc: Global,
     seqs: &[Shared<Items<Sym>>],
 ) -> Result<Items<Shared<Items<Sym>>>, NoMemory> {
-    let mut all = Items::new(alloc);
+    let mut all = Vec::with_capacity(alloc, seqs.len())?;
     for seq in seqs {
         all.push(seq.share()?)?;
     }
-    Ok(all)
+    Ok(Items::from_vec(all))
 }
 
 fn copied_defs(alloc: Global, defs: &[Def]) -> Result<Items<Def>, NoMemory> {
@@ -66,7 +66,7 @@ fn in_order(
     places: &Places,
     total: u32,
 ) -> Result<Vec<Row>, NoMemory> {
-    let mut rows = Vec::new(alloc);
+    let mut rows = Vec::with_capacity(alloc, merged.len())?;
     for row in merged {
         let mut row = row;
         place_codes(&mut row, places, total);
@@ -113,7 +113,7 @@ fn productions(
     prods: &[Prod],
     total: u32,
 ) -> Result<Items<CProd>, NoMemory> {
-    let mut all = Items::new(alloc);
+    let mut all = Vec::with_capacity(alloc, rows.len())?;
     for row in rows {
         all.push(CProd {
             fun: row.fun,
@@ -122,7 +122,7 @@ fn productions(
             seqs: sequences(alloc, prods, row.sample)?,
         })?;
     }
-    Ok(all)
+    Ok(Items::from_vec(all))
 }
 
 /// The concrete syntax with these productions and groups.

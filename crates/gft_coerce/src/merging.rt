@@ -1,6 +1,6 @@
 //! Rows that are alike but for one argument become one.
 use crate::groups::Groups;
-use crate::rows::{Row, rows};
+use crate::rows::{Row, add_alone, rows};
 use gft_core::NoMemory;
 use gft_pmcfg::Prod;
 use indexmap::IndexSet;
@@ -102,8 +102,12 @@ fn add_function(
     groups: &mut Groups,
     all: &mut Vec<Row>,
 ) -> Result<(), NoMemory> {
+    let arity = arity(prods, from);
+    if arity == 0 || to.saturating_sub(from) == 1 {
+        return add_alone(alloc, prods, from, to, all);
+    }
     let mut rows = rows(alloc, prods, from, to)?;
-    for place in 0..arity(prods, from) {
+    for place in 0..arity {
         rows = merged_at(alloc, rows, place, groups)?;
     }
     for row in rows {

@@ -5,8 +5,9 @@ use gft_pmcfg::Prod;
 use indexmap::IndexSet;
 use std::alloc::Global;
 
-/// A production. `rank` is the place of its sequences among the distinct ones of its function in order;
-/// `sample` is the first production with these sequences. Rows are in the order of productions.
+/// A production. Where two of its function are alike but for their sequences, `rank` is less for those that
+/// come first in order; `sample` is the first production with these sequences. Rows are in the order of
+/// productions.
 #[derive(PartialEq, Eq, PartialOrd, Ord, Hash, Drop)]
 pub struct Row {
     pub fun: u32,
@@ -90,6 +91,34 @@ fn at(numbers: &[usize], place: usize) -> usize {
     }
 }
 
+/// A production as a row.
+fn row_of(alloc: Global, prod: &Prod, rank: usize, sample: usize) -> Result<Row, NoMemory> {
+    Ok(Row {
+        fun: prod.fun,
+        args: codes(alloc, prod)?,
+        result: prod.result,
+        rank,
+        sample,
+    })
+}
+
+/// Adds the rows of the productions from one place to another, of which no two can become one: that of a
+/// function which has no other, or those of a function without arguments. Their own order is that of rows.
+pub fn add_alone(
+    alloc: Global,
+    prods: &[Prod],
+    from: usize,
+    to: usize,
+    all: &mut Vec<Row>,
+) -> Result<(), NoMemory> {
+    for place in from..to {
+        if let Some(prod) = prods.get(place) {
+            all.push(row_of(alloc, prod, place, place)?)?;
+        }
+    }
+    Ok(())
+}
+
 /// The rows of the productions from one place to another, which are those of a function.
 pub fn rows(alloc: Global, prods: &[Prod], from: usize, to: usize) -> Result<Vec<Row>, NoMemory> {
     let mut met = Met::new(alloc);
@@ -108,13 +137,8 @@ pub fn rows(alloc: Global, prods: &[Prod], from: usize, to: usize) -> Result<Vec
     for place in from..to {
         if let Some(prod) = prods.get(place) {
             let number = at(numbers.as_slice(), place - from);
-            rows.push(Row {
-                fun: prod.fun,
-                args: codes(alloc, prod)?,
-                result: prod.result,
-                rank: at(ranks.as_slice(), number),
-                sample: at(samples.as_slice(), number),
-            })?;
+            let (rank, sample) = (at(ranks.as_slice(), number), at(samples.as_slice(), number));
+            rows.push(row_of(alloc, prod, rank, sample)?)?;
         }
     }
     Ok(rows)
