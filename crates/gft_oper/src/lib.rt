@@ -2,6 +2,7 @@
 #![tactic(auto)]
 
 mod binders;
+mod feeding;
 mod machine;
 mod meaning;
 mod named;
@@ -9,6 +10,7 @@ mod numbers;
 mod order;
 mod scope;
 mod table;
+mod terms;
 mod walk;
 
 use gft_core::NoMemory;
@@ -24,7 +26,7 @@ pub fn normal(alloc: Global, flat: &Flat, j: u32) -> Result<LinTerm, NoMemory> {
     let mut terms = table::normal_terms(alloc, flat.typed.as_slice(), roots.as_slice())?;
     match terms.pop() {
         Some(term) => Ok(term),
-        None => meaning::no_outcome(alloc),
+        None => terms::no_outcome(alloc),
     }
 }
 

@@ -1,15 +1,16 @@
 //! The state of a walk: what is bound around the place that it is at, and what opers mean.
-use crate::meaning::{Meaning, no_outcome};
+use crate::meaning::Meaning;
 use crate::scope::{EMPTY, Entry, Function, Scopes};
+use crate::terms::Terms;
 use gft_core::{NoMemory, Shared};
-use gft_syntax::{CType, LinTerm};
+use gft_syntax::LinTerm;
 use sqlite_items::Items;
 use std::alloc::Global;
 
-/// What a term comes to: a normal term, or the function of that number.
-#[derive(Drop)]
+/// What a term comes to: the normal term, or the function, of that number.
+#[derive(Clone, Copy)]
 pub enum Outcome {
-    Data(LinTerm),
+    Data(u32),
     Function(u32),
 }
 
@@ -19,6 +20,7 @@ pub enum Outcome {
 pub struct Machine {
     pub meanings: Vec<Meaning>,
     pub scopes: Scopes,
+    pub terms: Terms,
     pub depth: u32,
     pub bound: Vec<Items<LinTerm>>,
 }
@@ -48,56 +50,11 @@ fn are_innermost(terms: &[LinTerm]) -> bool {
     true
 }
 
-/// Whether a term of the type stays as it is where it is cut.
-fn is_plain(ctype: &CType) -> bool {
-    matches!(ctype, CType::Str | CType::Param(_, _) | CType::Ints(_))
-}
-
-/// A term of the first type, cut to the second.
-pub fn cut_term(
-    alloc: Global,
-    term: LinTerm,
-    from: &CType,
-    to: &CType,
-) -> Result<LinTerm, NoMemory> {
-    if is_plain(from) {
-        return Ok(term);
-    }
-    Ok(LinTerm::Cut(Shared::new(alloc, term)?, from.copy()?, to.copy()?))
-}
-
-/// A function of the first type where the second stands.
-fn cut_function(number: u32, from: &CType, to: &CType) -> Result<Option<Function>, NoMemory> {
-    match from {
-        CType::Fun(takes, gives) => match to {
-            CType::Fun(given, wanted) => Ok(Some(Function::Cut {
-                number,
-                given: given.get().copy()?,
-                takes: takes.get().copy()?,
-                gives: gives.get().copy()?,
-                wanted: wanted.get().copy()?,
-            })),
-            _ => Ok(None),
-        },
-        _ => Ok(None),
-    }
-}
-
-/// Two normal terms, as parts of another.
-pub fn pair(
-    alloc: Global,
-    left: LinTerm,
-    right: LinTerm,
-) -> Result<(Shared<LinTerm>, Shared<LinTerm>), NoMemory> {
-    let left = Shared::new(alloc, left)?;
-    Ok((left, Shared::new(alloc, right)?))
-}
-
-/// What the name of an oper comes to: at once, or what the term comes to that stands for it.
-#[derive(Drop)]
+/// What the name of an oper comes to: at once, or what the body of that number comes to.
+#[derive(Clone, Copy)]
 pub enum Named {
     Known(Outcome),
-    Template(LinTerm),
+    Template(u32),
 }
 
 impl Machine {
@@ -106,14 +63,16 @@ impl Machine {
         Machine {
             meanings,
             scopes: Scopes::new(alloc),
+            terms: Terms::new(alloc),
             depth: 0,
             bound: Vec::new(alloc),
         }
     }
 
-    /// Forgets the scopes of the judgement before.
+    /// Forgets the scopes and terms of the judgement before.
     pub fn begin(&mut self, alloc: Global) {
         self.scopes = Scopes::new(alloc);
+        self.terms = Terms::new(alloc);
         self.depth = 0;
         self.bound = Vec::new(alloc);
     }
@@ -126,21 +85,31 @@ impl Machine {
         }
     }
 
+    /// The oper whose body is normal, as a value.
+    fn oper_function(&mut self, params: u32, body: u32) -> Result<Named, NoMemory> {
+        let oper = Function::Oper {
+            params,
+            body,
+            given: 0,
+            scope: EMPTY,
+        };
+        Ok(Named::Known(self.function(oper)?))
+    }
+
     /// What the name of an oper comes to.
     pub fn oper(&mut self, alloc: Global, number: u32) -> Result<Named, NoMemory> {
-        match self.meaning(number)? {
-            Meaning::Nothing => Ok(Named::Known(self.no_outcome(alloc)?)),
-            Meaning::Data(term) => Ok(Named::Known(Outcome::Data(term))),
-            Meaning::Function(params, body) => {
-                let oper = Function::Oper {
-                    params,
-                    body,
-                    given: 0,
-                    scope: EMPTY,
-                };
-                Ok(Named::Known(self.function(oper)?))
+        match self.meanings.get(number as usize) {
+            None => Ok(Named::Known(self.no_outcome(alloc)?)), // excluded by typing
+            Some(Meaning::Nothing) => Ok(Named::Known(self.no_outcome(alloc)?)),
+            Some(Meaning::Data(term)) => {
+                Ok(Named::Known(Outcome::Data(self.terms.add_shared(term.share()?)?)))
             }
-            Meaning::Template(term) => Ok(Named::Template(term)),
+            Some(Meaning::Function(params, body)) => {
+                let params = *params;
+                let body = self.scopes.add_body(body)?;
+                self.oper_function(params, body)
+            }
+            Some(Meaning::Template(term)) => Ok(Named::Template(self.scopes.add_body(term)?)),
         }
     }
 
@@ -150,13 +119,24 @@ impl Machine {
     }
 
     /// What has no outcome, as data.
-    pub fn no_outcome(&self, alloc: Global) -> Result<Outcome, NoMemory> {
-        Ok(Outcome::Data(no_outcome(alloc)?))
+    pub fn no_outcome(&mut self, alloc: Global) -> Result<Outcome, NoMemory> {
+        Ok(Outcome::Data(self.terms.nothing(alloc)?))
     }
 
     /// A further function, as what a term comes to.
     pub fn function(&mut self, function: Function) -> Result<Outcome, NoMemory> {
         Ok(Outcome::Function(self.scopes.add(function)?))
+    }
+
+    /// The lambda with this body, as what a term comes to.
+    pub fn closure(
+        &mut self,
+        left: u32,
+        body: &Shared<LinTerm>,
+        scope: u32,
+    ) -> Result<Outcome, NoMemory> {
+        let body = self.scopes.add_body(body)?;
+        self.function(Function::Closure { left, body, scope })
     }
 
     /// A variable at that many binders from the outside, as it is written at this place.
@@ -165,28 +145,33 @@ impl Machine {
     }
 
     /// What a variable comes to.
-    pub fn entry_outcome(&self, entry: Entry) -> Outcome {
+    pub fn entry_outcome(&mut self, alloc: Global, entry: Entry) -> Result<Outcome, NoMemory> {
         match entry {
-            Entry::Level(level) => Outcome::Data(self.variable(level)),
-            Entry::Arg(number) => Outcome::Data(LinTerm::Arg(number)),
-            Entry::Function(number) => Outcome::Function(number),
+            Entry::Level(level) => {
+                let variable = self.variable(level);
+                Ok(Outcome::Data(self.terms.add(alloc, variable)?))
+            }
+            Entry::Arg(number) => Ok(Outcome::Data(self.terms.add(alloc, LinTerm::Arg(number))?)),
+            Entry::Function(number) => Ok(Outcome::Function(number)),
         }
     }
 
-    /// The term that an argument is; a function has none here.
-    fn entry_term(&self, alloc: Global, entry: Option<Entry>) -> Result<LinTerm, NoMemory> {
-        match entry {
-            Some(Entry::Level(level)) => Ok(self.variable(level)),
-            Some(Entry::Arg(number)) => Ok(LinTerm::Arg(number)),
+    /// The normal term that an argument is; a function has none here.
+    fn entry_term(&mut self, alloc: Global, entry: Option<Entry>) -> Result<u32, NoMemory> {
+        let outcome = match entry {
+            Some(entry) => self.entry_outcome(alloc, entry)?,
+            None => return self.terms.nothing(alloc),
+        };
+        match outcome {
+            Outcome::Data(number) => Ok(number),
             // excluded by typing: the arguments are data
-            Some(Entry::Function(_)) => no_outcome(alloc),
-            None => no_outcome(alloc),
+            Outcome::Function(_) => self.terms.nothing(alloc),
         }
     }
 
     /// The last so many arguments of a scope, in their order.
     pub fn entry_terms(
-        &self,
+        &mut self,
         alloc: Global,
         count: u32,
         scope: u32,
@@ -194,76 +179,100 @@ impl Machine {
         let mut terms = Items::new(alloc);
         for at in 0..count {
             let entry = self.scopes.find(count - 1 - at, scope);
-            terms.push(self.entry_term(alloc, entry)?)?;
+            let number = self.entry_term(alloc, entry)?;
+            self.terms.list(alloc, number, &mut terms)?;
         }
         Ok(terms)
     }
 
     /// Binds terms here, all of them outside of what they bind.
-    pub fn bind_group(&mut self, terms: Items<LinTerm>) -> Result<(), NoMemory> {
+    fn bind_group(&mut self, terms: Items<LinTerm>) -> Result<(), NoMemory> {
         self.depth = self.depth.saturating_add(count_of(terms.as_slice()));
         self.bound.push(terms)?;
         Ok(())
     }
 
+    /// Binds the arguments of a call. The innermost variables in their order are not bound again.
+    fn bind_arguments(&mut self, terms: Items<LinTerm>) -> Result<(), NoMemory> {
+        if are_innermost(terms.as_slice()) {
+            return Ok(());
+        }
+        self.bind_group(terms)
+    }
+
+    /// What a variable stands for that is bound to the term, where this is a variable itself.
+    fn entry_at(&self, number: u32) -> Option<Entry> {
+        match self.terms.get(number) {
+            Some(LinTerm::Var(back)) => {
+                Some(Entry::Level(self.depth.saturating_sub(1).saturating_sub(*back)))
+            }
+            Some(LinTerm::Arg(number)) => Some(Entry::Arg(*number)),
+            _ => None,
+        }
+    }
+
     /// Binds one term, and says what a variable for it stands for. A variable is its one value, so it is
     /// not bound again.
-    pub fn bind(&mut self, alloc: Global, term: LinTerm) -> Result<Entry, NoMemory> {
-        match term {
-            LinTerm::Var(back) => {
-                Ok(Entry::Level(self.depth.saturating_sub(1).saturating_sub(back)))
-            }
-            LinTerm::Arg(number) => Ok(Entry::Arg(number)),
-            term => {
-                let level = self.depth;
-                let mut terms = Items::new(alloc);
-                terms.push(term)?;
-                self.bind_group(terms)?;
-                Ok(Entry::Level(level))
-            }
+    fn bind(&mut self, alloc: Global, number: u32) -> Result<Entry, NoMemory> {
+        if let Some(entry) = self.entry_at(number) {
+            return Ok(entry);
         }
+        let level = self.depth;
+        let mut terms = Items::new(alloc);
+        self.terms.list(alloc, number, &mut terms)?;
+        self.bind_group(terms)?;
+        Ok(Entry::Level(level))
     }
 
     /// What stands for a variable that is bound to this.
     pub fn entry_of(&mut self, alloc: Global, outcome: Outcome) -> Result<Entry, NoMemory> {
         match outcome {
-            Outcome::Data(term) => self.bind(alloc, term),
+            Outcome::Data(number) => self.bind(alloc, number),
             Outcome::Function(number) => Ok(Entry::Function(number)),
+        }
+    }
+
+    /// The body of an oper in normal form, as it stands.
+    fn body_outcome(&mut self, alloc: Global, body: u32) -> Result<Outcome, NoMemory> {
+        match self.scopes.body(body)? {
+            None => self.no_outcome(alloc), // bodies are numbered as they come
+            Some(body) => Ok(Outcome::Data(self.terms.add_shared(body)?)),
         }
     }
 
     /// The body of an oper in normal form, called with these arguments: it sees them alone.
     pub fn called(
         &mut self,
+        alloc: Global,
         terms: Items<LinTerm>,
-        body: &Shared<LinTerm>,
+        body: u32,
     ) -> Result<Outcome, NoMemory> {
-        if !are_innermost(terms.as_slice()) {
-            self.bind_group(terms)?;
+        self.bind_arguments(terms)?;
+        self.body_outcome(alloc, body)
+    }
+
+    /// Writes the `Let` of the last terms that are bound round the term.
+    fn wrap(&mut self, alloc: Global, number: u32) -> Result<u32, NoMemory> {
+        match self.bound.pop() {
+            None => Ok(number),
+            Some(terms) => self.terms.bound(alloc, terms, number),
         }
-        Ok(Outcome::Data(body.get().copy()?))
     }
 
     /// Writes each `Let` but the first so many round the term, and goes back to the depth before them.
-    pub fn wrapped(
+    fn wrapped(
         &mut self,
         alloc: Global,
         first: usize,
         depth: u32,
-        term: LinTerm,
-    ) -> Result<LinTerm, NoMemory> {
-        let mut term = term;
+        number: u32,
+    ) -> Result<u32, NoMemory> {
+        let mut number = number;
         for _ in first..self.bound.len() {
-            match self.bound.pop() {
-                None => {}
-                Some(terms) => {
-                    let body = Shared::new(alloc, term)?;
-                    term = LinTerm::Let(Shared::new(alloc, terms)?, body);
-                }
-            }
+            number = self.wrap(alloc, number)?;
         }
         self.depth = depth;
-        Ok(term)
+        Ok(number)
     }
 
     /// A scope with so many variables more, which are bound here, the last one innermost.
@@ -276,100 +285,6 @@ impl Machine {
         Ok(inner)
     }
 
-    /// What was of the first type, cut to the second.
-    pub fn cut(
-        &mut self,
-        alloc: Global,
-        outcome: Outcome,
-        from: &CType,
-        to: &CType,
-    ) -> Result<Outcome, NoMemory> {
-        match outcome {
-            Outcome::Data(term) => Ok(Outcome::Data(cut_term(alloc, term, from, to)?)),
-            Outcome::Function(number) => match cut_function(number, from, to)? {
-                Some(cut) => self.function(cut),
-                None => Ok(Outcome::Function(number)), // excluded by typing
-            },
-        }
-    }
-
-    /// An argument of the first type, cut to the second.
-    pub fn cut_entry(
-        &mut self,
-        alloc: Global,
-        entry: Entry,
-        from: &CType,
-        to: &CType,
-    ) -> Result<Entry, NoMemory> {
-        let outcome = self.entry_outcome(entry);
-        let cut = self.cut(alloc, outcome, from, to)?;
-        self.entry_of(alloc, cut)
-    }
-
-    /// A function of so many parameters that stands for an argument of the whole judgement, or the
-    /// argument itself where it is data.
-    pub fn parameter(&mut self, number: u32, params: u32) -> Result<Entry, NoMemory> {
-        if params == 0 {
-            return Ok(Entry::Arg(number));
-        }
-        let function = Function::Arg {
-            number,
-            params,
-            given: 0,
-            scope: EMPTY,
-        };
-        Ok(Entry::Function(self.scopes.add(function)?))
-    }
-
-    /// An oper in normal form with one argument more.
-    pub fn feed_oper(
-        &mut self,
-        alloc: Global,
-        params: u32,
-        body: Shared<LinTerm>,
-        given: u32,
-        scope: u32,
-        entry: Entry,
-    ) -> Result<Outcome, NoMemory> {
-        let scope = self.scopes.link(entry, scope)?;
-        let given = given.saturating_add(1);
-        if given < params {
-            return self.function(Function::Oper {
-                params,
-                body,
-                given,
-                scope,
-            });
-        }
-        let terms = self.entry_terms(alloc, params, scope)?;
-        self.called(terms, &body)
-    }
-
-    /// An argument of the whole judgement that is a function, with one argument more.
-    pub fn feed_argument(
-        &mut self,
-        alloc: Global,
-        number: u32,
-        params: u32,
-        given: u32,
-        scope: u32,
-        entry: Entry,
-    ) -> Result<Outcome, NoMemory> {
-        let scope = self.scopes.link(entry, scope)?;
-        let given = given.saturating_add(1);
-        if given < params {
-            return self.function(Function::Arg {
-                number,
-                params,
-                given,
-                scope,
-            });
-        }
-        let terms = self.entry_terms(alloc, params, scope)?;
-        let head = Shared::new(alloc, LinTerm::Arg(number))?;
-        Ok(Outcome::Data(LinTerm::App(head, Shared::new(alloc, terms)?)))
-    }
-
     /// What data came to, with what was bound on the way: each `Let` but the first so many.
     pub fn closed(
         &mut self,
@@ -377,11 +292,11 @@ impl Machine {
         first: usize,
         depth: u32,
         outcome: Outcome,
-    ) -> Result<LinTerm, NoMemory> {
+    ) -> Result<u32, NoMemory> {
         match outcome {
-            Outcome::Data(term) => self.wrapped(alloc, first, depth, term),
+            Outcome::Data(number) => self.wrapped(alloc, first, depth, number),
             Outcome::Function(_) => {
-                let nothing = no_outcome(alloc)?; // excluded by typing
+                let nothing = self.terms.nothing(alloc)?; // excluded by typing
                 self.wrapped(alloc, first, depth, nothing)
             }
         }

@@ -1,8 +1,6 @@
 //! What an oper means once it is in normal form.
 use gft_core::{NoMemory, Shared};
 use gft_syntax::{CType, LinTerm};
-use sqlite_items::Items;
-use std::alloc::Global;
 
 /// What stands where an oper is named.
 #[derive(Drop)]
@@ -10,16 +8,11 @@ pub enum Meaning {
     /// It is not defined, or not in normal form yet.
     Nothing,
     /// Data: a normal term.
-    Data(LinTerm),
+    Data(Shared<LinTerm>),
     /// A function of so many arguments that are data: its body, which is normal and closed but for them.
     Function(u32, Shared<LinTerm>),
     /// Any other function: the term as typed.
-    Template(LinTerm),
-}
-
-/// The term that has no outcome.
-pub fn no_outcome(alloc: Global) -> Result<LinTerm, NoMemory> {
-    Ok(LinTerm::Variants(Shared::new(alloc, Items::new(alloc))?))
+    Template(Shared<LinTerm>),
 }
 
 impl Meaning {
@@ -27,9 +20,9 @@ impl Meaning {
     pub fn copy(&self) -> Result<Meaning, NoMemory> {
         match self {
             Meaning::Nothing => Ok(Meaning::Nothing),
-            Meaning::Data(term) => Ok(Meaning::Data(term.copy()?)),
+            Meaning::Data(term) => Ok(Meaning::Data(term.share()?)),
             Meaning::Function(count, body) => Ok(Meaning::Function(*count, body.share()?)),
-            Meaning::Template(term) => Ok(Meaning::Template(term.copy()?)),
+            Meaning::Template(term) => Ok(Meaning::Template(term.share()?)),
         }
     }
 }

@@ -1,4 +1,5 @@
 //! What variables stand for, and functions as values.
+use crate::terms::add;
 use gft_core::{NoMemory, Shared};
 use gft_syntax::{CType, LinTerm};
 use std::alloc::Global;
@@ -23,19 +24,19 @@ struct Link {
 }
 
 /// A function as a value. `given` counts the arguments that it has so far, fewer than `params`; they are
-/// the innermost variables of `scope`.
-#[derive(Drop)]
+/// the innermost variables of `scope`. Bodies and cuts are named by their numbers.
+#[derive(Clone, Copy)]
 pub enum Function {
     /// A lambda, of which so many parameters are left, with the scope of its body.
     Closure {
         left: u32,
-        body: Shared<LinTerm>,
+        body: u32,
         scope: u32,
     },
     /// An oper in normal form: its body.
     Oper {
         params: u32,
-        body: Shared<LinTerm>,
+        body: u32,
         given: u32,
         scope: u32,
     },
@@ -46,63 +47,36 @@ pub enum Function {
         given: u32,
         scope: u32,
     },
-    /// The function of that number, whose argument is cut from the first type to the second before it is
-    /// taken, and whose result is cut from the third to the fourth.
+    /// The function of that number, seen at another type.
     Cut {
         number: u32,
-        given: CType,
-        takes: CType,
-        gives: CType,
-        wanted: CType,
+        cut: u32,
     },
 }
 
-impl Function {
-    fn copy(&self) -> Result<Function, NoMemory> {
-        match self {
-            Function::Closure { left, body, scope } => {
-                Ok(Function::Closure {
-                    left: *left,
-                    body: body.share()?,
-                    scope: *scope,
-                })
-            }
-            Function::Oper {
-                params,
-                body,
-                given,
-                scope,
-            } => Ok(Function::Oper {
-                params: *params,
-                body: body.share()?,
-                given: *given,
-                scope: *scope,
-            }),
-            Function::Arg {
-                number,
-                params,
-                given,
-                scope,
-            } => Ok(Function::Arg {
-                number: *number,
-                params: *params,
-                given: *given,
-                scope: *scope,
-            }),
-            Function::Cut {
-                number,
-                given,
-                takes,
-                gives,
-                wanted,
-            } => Ok(Function::Cut {
-                number: *number,
-                given: given.copy()?,
-                takes: takes.copy()?,
-                gives: gives.copy()?,
-                wanted: wanted.copy()?,
-            }),
-        }
+/// The types at which a function is seen at another type: its argument is cut from `given` to `takes`
+/// before it is taken, and its result is cut from `gives` to `wanted`.
+#[derive(Drop)]
+pub struct Cut {
+    pub given: Shared<CType>,
+    pub takes: Shared<CType>,
+    pub gives: Shared<CType>,
+    pub wanted: Shared<CType>,
+}
+
+/// The cut of functions of the first type to the second.
+fn cut_of(from: &CType, to: &CType) -> Result<Option<Cut>, NoMemory> {
+    match from {
+        CType::Fun(takes, gives) => match to {
+            CType::Fun(given, wanted) => Ok(Some(Cut {
+                given: given.share()?,
+                takes: takes.share()?,
+                gives: gives.share()?,
+                wanted: wanted.share()?,
+            })),
+            _ => Ok(None),
+        },
+        _ => Ok(None),
     }
 }
 
@@ -111,6 +85,8 @@ impl Function {
 pub struct Scopes {
     links: Vec<Link>,
     functions: Vec<Function>,
+    bodies: Vec<Shared<LinTerm>>,
+    cuts: Vec<Shared<Cut>>,
 }
 
 impl Scopes {
@@ -119,6 +95,8 @@ impl Scopes {
         Scopes {
             links: Vec::new(alloc),
             functions: Vec::new(alloc),
+            bodies: Vec::new(alloc),
+            cuts: Vec::new(alloc),
         }
     }
 
@@ -149,30 +127,52 @@ impl Scopes {
 
     /// The number of a further function.
     pub fn add(&mut self, function: Function) -> Result<u32, NoMemory> {
-        let number = match u32::try_from(self.functions.len()) {
-            Ok(number) => number,
-            Err(_) => return Err(NoMemory), // more than a u32 counts
-        };
-        self.functions.push(function)?;
-        Ok(number)
+        add(&mut self.functions, function)
     }
 
     /// The function of that number.
-    pub fn function(&self, number: u32) -> Result<Option<Function>, NoMemory> {
-        match self.functions.get(number as usize) {
+    pub fn function(&self, number: u32) -> Option<Function> {
+        self.functions.get(number as usize).copied()
+    }
+
+    /// The number of a further body, which is shared.
+    pub fn add_body(&mut self, body: &Shared<LinTerm>) -> Result<u32, NoMemory> {
+        add(&mut self.bodies, body.share()?)
+    }
+
+    /// The body of that number.
+    pub fn body(&self, number: u32) -> Result<Option<Shared<LinTerm>>, NoMemory> {
+        match self.bodies.get(number as usize) {
             None => Ok(None),
-            Some(function) => Ok(Some(function.copy()?)),
+            Some(body) => Ok(Some(body.share()?)),
+        }
+    }
+
+    /// The number of a further cut, of functions of the first type to the second.
+    pub fn add_cut(
+        &mut self,
+        alloc: Global,
+        from: &CType,
+        to: &CType,
+    ) -> Result<Option<u32>, NoMemory> {
+        match cut_of(from, to)? {
+            None => Ok(None),
+            Some(cut) => Ok(Some(add(&mut self.cuts, Shared::new(alloc, cut)?)?)),
+        }
+    }
+
+    /// The cut of that number.
+    pub fn cut(&self, number: u32) -> Result<Option<Shared<Cut>>, NoMemory> {
+        match self.cuts.get(number as usize) {
+            None => Ok(None),
+            Some(cut) => Ok(Some(cut.share()?)),
         }
     }
 
     /// How many parameters the function has and its body, where it is an oper in normal form without
     /// arguments so far, and no more parameters than there are arguments.
-    pub fn whole(
-        &self,
-        number: u32,
-        args: usize,
-    ) -> Result<Option<(u32, Shared<LinTerm>)>, NoMemory> {
-        match self.functions.get(number as usize) {
+    pub fn whole(&self, number: u32, args: usize) -> Option<(u32, u32)> {
+        match self.function(number) {
             Some(
                 Function::Oper {
                     params,
@@ -181,12 +181,12 @@ impl Scopes {
                     scope: _,
                 },
             ) => {
-                if *given == 0 && *params as usize <= args {
-                    return Ok(Some((*params, body.share()?)));
+                if given == 0 && params as usize <= args {
+                    return Some((params, body));
                 }
-                Ok(None)
+                None
             }
-            _ => Ok(None),
+            _ => None,
         }
     }
 }

@@ -1,8 +1,9 @@
 //! The normal forms of all opers that judgements rest on, and then of the judgements.
 use crate::machine::{Machine, Outcome};
-use crate::meaning::{Meaning, Shape, no_outcome, parameters};
+use crate::meaning::{Meaning, Shape, parameters};
 use crate::order::order;
 use crate::scope::EMPTY;
+use crate::terms::no_outcome;
 use gft_core::{NoMemory, Shared};
 use gft_syntax::{CType, LinTerm, Typed};
 use std::alloc::Global;
@@ -35,7 +36,7 @@ fn body_of(
 ) -> Result<Shared<LinTerm>, NoMemory> {
     let scope = machine.deepen(count, EMPTY)?;
     let body = machine.data(alloc, body, scope, FUEL)?;
-    Shared::new(alloc, body)
+    machine.terms.share(alloc, body)
 }
 
 /// What a function means: where its parameters are data and all of them those of lambdas, its body.
@@ -52,7 +53,7 @@ fn function(
     if shape.are_data && count == shape.count {
         return Ok(Meaning::Function(count, body_of(alloc, machine, count, body)?));
     }
-    Ok(Meaning::Template(term.copy()?))
+    Ok(Meaning::Template(Shared::new(alloc, term.copy()?)?))
 }
 
 /// What the oper with this term means; those that it names have their meanings.
@@ -62,7 +63,8 @@ fn meaning_of(alloc: Global, machine: &mut Machine, typed: &Typed) -> Result<Mea
     if shape.count > 0 {
         return function(alloc, machine, &typed.term, shape);
     }
-    Ok(Meaning::Data(machine.data(alloc, &typed.term, EMPTY, FUEL)?))
+    let number = machine.data(alloc, &typed.term, EMPTY, FUEL)?;
+    Ok(Meaning::Data(machine.terms.share(alloc, number)?))
 }
 
 /// The whole judgement applied to one argument for each of the parameters that its type still has.
@@ -95,7 +97,8 @@ fn whole(alloc: Global, machine: &mut Machine, typed: &Typed) -> Result<LinTerm,
     machine.begin(alloc);
     let outcome = machine.run(alloc, &typed.term, EMPTY, FUEL)?;
     let outcome = fed(alloc, machine, outcome, &typed.ctype)?;
-    machine.closed(alloc, 0, 0, outcome)
+    let number = machine.closed(alloc, 0, 0, outcome)?;
+    machine.terms.copy(alloc, number)
 }
 
 fn nothing_yet(alloc: Global, count: usize) -> Result<Vec<Meaning>, NoMemory> {
@@ -150,6 +153,34 @@ fn add(
     Ok(())
 }
 
+/// Adds the normal forms of these judgements; `order` has all that they rest on.
+fn add_all(
+    alloc: Global,
+    machine: &mut Machine,
+    typed: &[Option<Typed>],
+    roots: &[u32],
+    order: &[u32],
+    terms: &mut Vec<LinTerm>,
+) -> Result<(), NoMemory> {
+    fill(alloc, machine, typed, order)?;
+    add(alloc, machine, typed, roots, terms)?;
+    release(machine, order);
+    Ok(())
+}
+
+/// Adds the normal forms by a machine that has no meaning yet.
+fn add_by(
+    alloc: Global,
+    machine: Machine,
+    typed: &[Option<Typed>],
+    roots: &[u32],
+    order: &[u32],
+    terms: &mut Vec<LinTerm>,
+) -> Result<(), NoMemory> {
+    let mut machine = machine;
+    add_all(alloc, &mut machine, typed, roots, order, terms)
+}
+
 /// The normal forms of these judgements, in their order.
 pub fn normal_terms(
     alloc: Global,
@@ -157,10 +188,8 @@ pub fn normal_terms(
     roots: &[u32],
 ) -> Result<Vec<LinTerm>, NoMemory> {
     let order = order(alloc, typed, roots)?;
-    let mut machine = Machine::new(alloc, nothing_yet(alloc, typed.len())?);
-    fill(alloc, &mut machine, typed, order.as_slice())?;
+    let machine = Machine::new(alloc, nothing_yet(alloc, typed.len())?);
     let mut terms = Vec::new(alloc);
-    add(alloc, &mut machine, typed, roots, &mut terms)?;
-    release(&mut machine, order.as_slice());
+    add_by(alloc, machine, typed, roots, order.as_slice(), &mut terms)?;
     Ok(terms)
 }

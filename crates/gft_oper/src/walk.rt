@@ -1,9 +1,9 @@
 //! The walk over a typed term. Each call lowers `fuel`, the bound on how deep calls nest; well-typed terms
 //! end long before it.
 use crate::binders::binders;
-use crate::machine::{Machine, Named, Outcome, pair};
-use crate::meaning::no_outcome;
+use crate::machine::{Machine, Named, Outcome};
 use crate::scope::{EMPTY, Entry, Function};
+use crate::terms::joint_of;
 use gft_core::{Name, NoMemory, Shared};
 use gft_syntax::{Branches, LinTerm, Pattern};
 use sqlite_items::Items;
@@ -25,20 +25,13 @@ impl Machine {
         match term {
             LinTerm::Var(back) => match self.scopes.find(*back, scope) {
                 None => self.no_outcome(alloc), // excluded by typing
-                Some(entry) => Ok(self.entry_outcome(entry)),
+                Some(entry) => self.entry_outcome(alloc, entry),
             },
             LinTerm::Oper(number) => match self.oper(alloc, *number)? {
                 Named::Known(outcome) => Ok(outcome),
-                Named::Template(term) => self.run(alloc, &term, EMPTY, fuel - 1),
+                Named::Template(body) => self.body(alloc, body, EMPTY, fuel - 1),
             },
-            LinTerm::Lambda(left, body) => {
-                let body = body.share()?;
-                self.function(Function::Closure {
-                    left: *left,
-                    body,
-                    scope,
-                })
-            }
+            LinTerm::Lambda(left, body) => self.closure(*left, body, scope),
             LinTerm::App(head, args) => {
                 let function = self.run(alloc, head.get(), scope, fuel - 1)?;
                 self.applied(alloc, function, args.get().as_slice(), 0, scope, fuel - 1)
@@ -53,6 +46,24 @@ impl Machine {
                 self.cut(alloc, outcome, from, to)
             }
             term => Ok(Outcome::Data(self.parts(alloc, term, scope, fuel - 1)?)),
+        }
+    }
+
+    /// What the body of that number comes to.
+    #[cycle(walk)]
+    fn body(
+        &mut self,
+        alloc: Global,
+        body: u32,
+        scope: u32,
+        fuel: u32,
+    ) -> Result<Outcome, NoMemory> {
+        if fuel == 0 {
+            return self.no_outcome(alloc); // excluded by typing: calls end
+        }
+        match self.scopes.body(body)? {
+            None => self.no_outcome(alloc), // bodies are numbered as they come
+            Some(body) => self.run(alloc, body.get(), scope, fuel - 1),
         }
     }
 
@@ -105,10 +116,10 @@ impl Machine {
             Outcome::Data(_) => return self.no_outcome(alloc),
             Outcome::Function(number) => number,
         };
-        if let Some((params, body)) = self.scopes.whole(number, args.len() - from)? {
+        if let Some((params, body)) = self.scopes.whole(number, args.len() - from) {
             let to = from.saturating_add(params as usize);
             let terms = self.all(alloc, args, from, to, scope, fuel - 1)?;
-            let outcome = self.called(terms, &body)?;
+            let outcome = self.called(alloc, terms, body)?;
             return self.applied(alloc, outcome, args, to, scope, fuel - 1);
         }
         let to = from.saturating_add(1);
@@ -134,7 +145,7 @@ impl Machine {
         if fuel == 0 {
             return self.no_outcome(alloc); // excluded by typing: calls end
         }
-        match self.scopes.function(number)? {
+        match self.scopes.function(number) {
             None => self.no_outcome(alloc), // functions are numbered as they are made
             Some(Function::Closure { left, body, scope }) => {
                 let inner = self.scopes.link(entry, scope)?;
@@ -145,7 +156,7 @@ impl Machine {
                         scope: inner,
                     });
                 }
-                self.run(alloc, body.get(), inner, fuel - 1)
+                self.body(alloc, body, inner, fuel - 1)
             }
             Some(
                 Function::Oper {
@@ -163,18 +174,10 @@ impl Machine {
                     scope,
                 },
             ) => { self.feed_argument(alloc, number, params, given, scope, entry) }
-            Some(
-                Function::Cut {
-                    number,
-                    given,
-                    takes,
-                    gives,
-                    wanted,
-                },
-            ) => {
-                let entry = self.cut_entry(alloc, entry, &given, &takes)?;
+            Some(Function::Cut { number, cut }) => {
+                let entry = self.taken(alloc, entry, cut)?;
                 let outcome = self.feed(alloc, number, entry, fuel - 1)?;
-                self.cut(alloc, outcome, &gives, &wanted)
+                self.wanted(alloc, outcome, cut)
             }
         }
     }
@@ -187,9 +190,9 @@ impl Machine {
         term: &LinTerm,
         scope: u32,
         fuel: u32,
-    ) -> Result<LinTerm, NoMemory> {
+    ) -> Result<u32, NoMemory> {
         if fuel == 0 {
-            return no_outcome(alloc); // excluded by typing: calls end
+            return self.terms.nothing(alloc); // excluded by typing: calls end
         }
         let first = self.bound.len();
         let depth = self.depth;
@@ -214,7 +217,8 @@ impl Machine {
         }
         'each: for at in from..to {
             if let Some(term) = terms.get(at) {
-                normal.push(self.data(alloc, term, scope, fuel - 1)?)?;
+                let number = self.data(alloc, term, scope, fuel - 1)?;
+                self.terms.list(alloc, number, &mut normal)?;
             }
         }
         Ok(normal)
@@ -234,8 +238,8 @@ impl Machine {
             return Ok(normal); // excluded by typing: calls end
         }
         'each: for field in fields {
-            let term = self.data(alloc, &field.1, scope, fuel - 1)?;
-            normal.push((field.0.share()?, term))?;
+            let number = self.data(alloc, &field.1, scope, fuel - 1)?;
+            self.terms.list_field(alloc, &field.0, number, &mut normal)?;
         }
         Ok(normal)
     }
@@ -257,9 +261,10 @@ impl Machine {
         'each: for branch in branches {
             let count = binders(alloc, branch.0.get())?;
             let inner = self.deepen(count, scope)?;
-            let term = self.data(alloc, &branch.1, inner, fuel - 1)?;
+            let number = self.data(alloc, &branch.1, inner, fuel - 1)?;
             self.depth = depth;
-            normal.push((branch.0.share()?, term))?;
+            self.terms
+                .list_branch(alloc, &branch.0, number, &mut normal)?;
         }
         Ok(normal)
     }
@@ -298,13 +303,14 @@ impl Machine {
         right: &LinTerm,
         scope: u32,
         fuel: u32,
-    ) -> Result<(Shared<LinTerm>, Shared<LinTerm>), NoMemory> {
+    ) -> Result<(u32, u32), NoMemory> {
         if fuel == 0 {
-            return pair(alloc, no_outcome(alloc)?, no_outcome(alloc)?); // excluded by typing
+            let nothing = self.terms.nothing(alloc)?; // excluded by typing: calls end
+            return Ok((nothing, nothing));
         }
         let left = self.data(alloc, left, scope, fuel - 1)?;
         let right = self.data(alloc, right, scope, fuel - 1)?;
-        pair(alloc, left, right)
+        Ok((left, right))
     }
 
     /// The normal form of a term that is neither a variable, a call, a `Let` nor a cut.
@@ -315,59 +321,43 @@ impl Machine {
         term: &LinTerm,
         scope: u32,
         fuel: u32,
-    ) -> Result<LinTerm, NoMemory> {
+    ) -> Result<u32, NoMemory> {
         if fuel == 0 {
-            return no_outcome(alloc); // excluded by typing: calls end
+            return self.terms.nothing(alloc); // excluded by typing: calls end
+        }
+        if let Some((joint, left, right)) = joint_of(term) {
+            let both = self.both(alloc, left, right, scope, fuel - 1)?;
+            return self.terms.join(alloc, joint, both);
         }
         match term {
             LinTerm::Con(name, args) => {
                 let args = args.get().as_slice();
                 let args = self.all(alloc, args, 0, args.len(), scope, fuel - 1)?;
-                Ok(LinTerm::Con(name.share()?, Shared::new(alloc, args)?))
-            }
-            LinTerm::Concat(left, right) => {
-                let both = self.both(alloc, left.get(), right.get(), scope, fuel - 1)?;
-                Ok(LinTerm::Concat(both.0, both.1))
-            }
-            LinTerm::Glue(left, right, place) => {
-                let both = self.both(alloc, left.get(), right.get(), scope, fuel - 1)?;
-                Ok(LinTerm::Glue(both.0, both.1, *place))
-            }
-            LinTerm::Predef(which, number, string, place) => {
-                let both = self.both(alloc, number.get(), string.get(), scope, fuel - 1)?;
-                Ok(LinTerm::Predef(*which, both.0, both.1, *place))
-            }
-            LinTerm::Extend(left, right) => {
-                let both = self.both(alloc, left.get(), right.get(), scope, fuel - 1)?;
-                Ok(LinTerm::Extend(both.0, both.1))
-            }
-            LinTerm::Select(table, at) => {
-                let both = self.both(alloc, table.get(), at.get(), scope, fuel - 1)?;
-                Ok(LinTerm::Select(both.0, both.1))
+                self.terms.constructor(alloc, name, args)
             }
             LinTerm::Record(fields) => {
                 let fields = self.fields(alloc, fields.get().as_slice(), scope, fuel - 1)?;
-                Ok(LinTerm::Record(Shared::new(alloc, fields)?))
+                self.terms.record(alloc, fields)
             }
             LinTerm::Proj(record, label) => {
                 let record = self.data(alloc, record.get(), scope, fuel - 1)?;
-                Ok(LinTerm::Proj(Shared::new(alloc, record)?, label.share()?))
+                self.terms.projection(alloc, record, label)
             }
             LinTerm::Table(over, branches) => {
                 let branches = self.branches(alloc, branches.get(), scope, fuel - 1)?;
-                Ok(LinTerm::Table(over.copy()?, branches))
+                self.terms.table(alloc, over, branches)
             }
             LinTerm::Case(at, branches, place) => {
                 let at = self.data(alloc, at.get(), scope, fuel - 1)?;
                 let branches = self.branches(alloc, branches.get(), scope, fuel - 1)?;
-                Ok(LinTerm::Case(Shared::new(alloc, at)?, branches, *place))
+                self.terms.case(alloc, at, branches, *place)
             }
             LinTerm::Variants(members) => {
                 let members = members.get().as_slice();
                 let members = self.all(alloc, members, 0, members.len(), scope, fuel - 1)?;
-                Ok(LinTerm::Variants(Shared::new(alloc, members)?))
+                self.terms.variants(alloc, members)
             }
-            term => term.copy(),
+            term => self.terms.add_copy(alloc, term),
         }
     }
 }

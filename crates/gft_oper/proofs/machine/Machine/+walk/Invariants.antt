@@ -4,6 +4,9 @@ use Rattle.gft_oper.proofs.machine.Machine.+walk.Given as goal
 abbrev pub decreases-run : goal.decreases-run
 decreases-run l = l.fuel
 
+abbrev pub decreases-body : goal.decreases-body
+decreases-body l = l.fuel
+
 abbrev pub decreases-extend : goal.decreases-extend
 decreases-extend l = l.fuel
 
