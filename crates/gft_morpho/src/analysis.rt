@@ -100,6 +100,12 @@ impl<'a> Search<'a> {
         Ok(())
     }
 
+    /// What was found, without the words.
+    fn into_found(self) -> TextAnalyses {
+        let Search { words: _, found } = self;
+        found
+    }
+
     fn add_language(&mut self, c: &Concrete) -> Result<(), NoMemory> {
         for prod in c.prods.as_slice() {
             if prod.args.is_empty() {
@@ -153,7 +159,7 @@ pub fn analyses(
     if let Some(c) = g.concretes.get(lang as usize) {
         search.add_language(c)?;
     }
-    let TextAnalyses { numbers, lists } = search.found;
+    let TextAnalyses { numbers, lists } = search.into_found();
     let mut sorted = Vec::new(alloc);
     for list in lists {
         sorted.push(each_once(alloc, list)?)?;
@@ -178,9 +184,10 @@ pub fn analyse(
     let mut search = Search::new(alloc);
     search.add_word(alloc, word.as_str())?;
     search.add_language(c)?;
-    for list in search.found.lists {
-        for one in list {
-            found.push(one)?;
+    let TextAnalyses { numbers: _, lists } = search.into_found();
+    for list in lists.as_slice() {
+        for one in list.as_slice() {
+            found.push(*one)?;
         }
     }
     each_once(alloc, found)
