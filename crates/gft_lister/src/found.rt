@@ -1,5 +1,6 @@
 //! The patterns that are listed: each once, in the order of their texts.
-use gft_core::{NoMemory, Tree};
+use crate::entry::{Entry, Form};
+use gft_core::{NoMemory, Text, Tree};
 use gft_tree::print;
 use indexmap::IndexSet;
 use std::alloc::Global;
@@ -7,7 +8,7 @@ use std::alloc::Global;
 /// Patterns with their texts.
 #[derive(Drop)]
 pub struct Found {
-    trees: Vec<Option<Tree>>,
+    forms: Vec<Option<Form>>,
     texts: IndexSet<String>,
 }
 
@@ -15,7 +16,7 @@ impl Found {
     /// No pattern. It takes no memory.
     pub fn new(alloc: Global) -> Found {
         Found {
-            trees: Vec::new(alloc),
+            forms: Vec::new(alloc),
             texts: IndexSet::new(alloc),
         }
     }
@@ -26,9 +27,9 @@ impl Found {
     }
 
     /// Adds a pattern that is not there.
-    pub fn add(&mut self, text: String, tree: Tree) -> Result<(), NoMemory> {
+    pub fn add(&mut self, text: String, form: Form) -> Result<(), NoMemory> {
         if self.texts.insert(text)? {
-            self.trees.push(Some(tree))?;
+            self.forms.push(Some(form))?;
         }
         Ok(())
     }
@@ -49,26 +50,34 @@ impl Found {
         Ok(order)
     }
 
-    /// All patterns in the byte order of their texts.
-    pub fn sorted(self, alloc: Global) -> Result<Vec<Tree>, NoMemory> {
+    /// Takes the pattern at a place.
+    fn take(&mut self, alloc: Global, place: usize) -> Result<Option<Entry>, NoMemory> {
+        let Some(text) = self.texts.get_index(place) else {
+            return Ok(None);
+        };
+        let text = Text::from_str(alloc, text.as_str())?;
+        match take(&mut self.forms, place) {
+            Some(form) => Ok(Some(Entry { text, form })),
+            None => Ok(None),
+        }
+    }
+
+    /// Takes all patterns, in the byte order of their texts.
+    pub fn take_sorted(&mut self, alloc: Global) -> Result<Vec<Entry>, NoMemory> {
         let order = self.order(alloc)?;
-        let Found {
-            mut trees,
-            texts: _,
-        } = self;
-        let mut sorted: Vec<Tree> = Vec::new(alloc);
+        let mut sorted: Vec<Entry> = Vec::new(alloc);
         'patterns: for place in order.as_slice() {
-            if let Some(tree) = take(&mut trees, *place) {
-                sorted.push(tree)?;
+            if let Some(entry) = self.take(alloc, *place)? {
+                sorted.push(entry)?;
             }
         }
         Ok(sorted)
     }
 }
 
-/// Takes the tree at a place.
-fn take(trees: &mut Vec<Option<Tree>>, place: usize) -> Option<Tree> {
-    match trees.get_mut(place) {
+/// Takes the form at a place.
+fn take(forms: &mut Vec<Option<Form>>, place: usize) -> Option<Form> {
+    match forms.get_mut(place) {
         Some(here) => here.take(),
         None => None,
     }

@@ -1,8 +1,11 @@
 //! The patterns of a text.
 #![tactic(auto)]
 
+mod entry;
 mod found;
 mod listing;
 mod patterns;
+mod spelling;
 
-pub use listing::{Listing, Tables, list, list_with};
+pub use entry::{Entry, Form, tree_of};
+pub use listing::{Entries, Listing, Tables, entries_with, list, list_with};

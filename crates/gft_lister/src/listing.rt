@@ -1,6 +1,8 @@
 //! What `parse` lists.
+use crate::entry::{Entry, Form, trees_of};
 use crate::found::{Found, text_of};
 use crate::patterns::{Pattern, Source, pattern_of};
+use crate::spelling::{Spelled, Speller};
 use gft_abs::{SolveErr, solve};
 use gft_chart::Chart;
 use gft_core::{NoMemory, Shared, Token, Tree};
@@ -14,6 +16,15 @@ use std::alloc::Global;
 #[derive(Drop)]
 pub enum Listing {
     Trees(Vec<Tree>),
+    FailedAt(u32),
+    NotComplete,
+    NoTree,
+}
+
+/// What `Listing` says, with the texts of the patterns, which are made for their order.
+#[derive(Drop)]
+pub enum Entries {
+    Patterns(Vec<Entry>),
     FailedAt(u32),
     NotComplete,
     NoTree,
@@ -96,8 +107,8 @@ fn is_filled(alloc: Global, given: Given<'_>, pattern: &Pattern) -> Result<bool,
     )
 }
 
-/// Adds a pattern that needs no solving: no category of the grammar takes indices.
-fn add_plain(
+/// Adds a pattern that needs no solving.
+fn add_pattern(
     alloc: Global,
     given: Given<'_>,
     found: &mut Found,
@@ -109,9 +120,24 @@ fn add_plain(
     }
     if is_filled(alloc, given, &pattern)? {
         let Pattern { tree, holes: _ } = pattern;
-        found.add(text, tree)?;
+        found.add(text, Form::Tree(tree))?;
     }
     Ok(())
+}
+
+/// Adds the pattern of a run that needs no solving: no category of the grammar takes indices.
+fn add_plain(
+    alloc: Global,
+    given: Given<'_>,
+    source: Source<'_>,
+    speller: &mut Speller,
+    found: &mut Found,
+    run: u32,
+) -> Result<(), NoMemory> {
+    match speller.spelled(alloc, source, run)? {
+        Some(Spelled { functions, text }) => found.add(text, Form::Functions(functions)),
+        None => add_pattern(alloc, given, found, pattern_of(alloc, source, run)?),
+    }
 }
 
 /// Adds the pattern of a run, if it has a type and can be filled. One pattern may come of several runs, of which one that can be
@@ -130,7 +156,7 @@ fn add_solved(
         return Ok(());
     }
     if is_filled(alloc, given, pattern)? {
-        found.add(text, tree)?;
+        found.add(text, Form::Tree(tree))?;
     }
     Ok(())
 }
@@ -149,27 +175,70 @@ fn patterns(
         packed,
     };
     let mut found = Found::new(alloc);
+    let mut speller = Speller::new(alloc);
     'runs: for run in packed.roots.as_slice() {
-        let pattern = pattern_of(alloc, source, *run)?;
         if given.tables.filling.get().is_plain() {
-            add_plain(alloc, given, &mut found, pattern)?;
+            add_plain(alloc, given, source, &mut speller, &mut found, *run)?;
         } else {
+            let pattern = pattern_of(alloc, source, *run)?;
             add_solved(alloc, given, &mut found, &pattern)?;
         }
     }
     Ok(found)
 }
 
-/// The listing of a sentence.
-fn list_sentence(alloc: Global, given: Given<'_>, chart: &Chart<'_>) -> Result<Listing, NoMemory> {
+/// The entries of a sentence.
+fn entries_of(alloc: Global, given: Given<'_>, chart: &Chart<'_>) -> Result<Entries, NoMemory> {
     let forest = chart.forest()?;
     let packed = packed_within(alloc, &forest, given.c, given.depth)?;
-    let found = patterns(alloc, given, &forest, &packed)?;
-    let trees = found.sorted(alloc)?;
-    if trees.is_empty() {
-        return Ok(Listing::NoTree);
+    let mut found = patterns(alloc, given, &forest, &packed)?;
+    let entries = found.take_sorted(alloc)?;
+    if entries.is_empty() {
+        return Ok(Entries::NoTree);
     }
-    Ok(Listing::Trees(trees))
+    Ok(Entries::Patterns(entries))
+}
+
+/// What `list_with` lists, with the texts.
+pub fn entries_with(
+    alloc: Global,
+    tables: &Tables,
+    g: &Grammar,
+    lang: u32,
+    cat: u32,
+    words: &Vec<Token>,
+    depth: u32,
+) -> Result<Entries, NoMemory> {
+    let Some(c) = g.concretes.get(lang as usize) else {
+        // excluded by the caller: the language is in range
+        return Ok(Entries::NoTree);
+    };
+    let mut chart = Chart::start_over(alloc, &tables.chart, c, cat)?;
+    let failed = read_all(&mut chart, words.as_slice())?;
+    if failed != 0 {
+        return Ok(Entries::FailedAt(failed));
+    }
+    if !chart.is_sentence() {
+        return Ok(Entries::NotComplete);
+    }
+    let given = Given {
+        g,
+        c,
+        tables,
+        cat,
+        depth,
+    };
+    entries_of(alloc, given, &chart)
+}
+
+/// The listing that entries give.
+fn listing_of(alloc: Global, g: &Grammar, entries: Entries) -> Result<Listing, NoMemory> {
+    match entries {
+        Entries::Patterns(entries) => Ok(Listing::Trees(trees_of(alloc, &g.abs, entries)?)),
+        Entries::FailedAt(number) => Ok(Listing::FailedAt(number)),
+        Entries::NotComplete => Ok(Listing::NotComplete),
+        Entries::NoTree => Ok(Listing::NoTree),
+    }
 }
 
 /// The patterns of the words within the depth, each once, in byte order of their texts, over tables of the language.
@@ -182,26 +251,8 @@ pub fn list_with(
     words: &Vec<Token>,
     depth: u32,
 ) -> Result<Listing, NoMemory> {
-    let Some(c) = g.concretes.get(lang as usize) else {
-        // excluded by the caller: the language is in range
-        return Ok(Listing::NoTree);
-    };
-    let mut chart = Chart::start_over(alloc, &tables.chart, c, cat)?;
-    let failed = read_all(&mut chart, words.as_slice())?;
-    if failed != 0 {
-        return Ok(Listing::FailedAt(failed));
-    }
-    if !chart.is_sentence() {
-        return Ok(Listing::NotComplete);
-    }
-    let given = Given {
-        g,
-        c,
-        tables,
-        cat,
-        depth,
-    };
-    list_sentence(alloc, given, &chart)
+    let entries = entries_with(alloc, tables, g, lang, cat, words, depth)?;
+    listing_of(alloc, g, entries)
 }
 
 /// The patterns of the words within the depth, each once, in byte order of their texts.

@@ -30,8 +30,35 @@ impl<'a> Source<'a> {
     }
 
     /// A run by its number.
-    fn run(&self, run: u32) -> Option<PackedRun> {
+    pub fn run(&self, run: u32) -> Option<PackedRun> {
         self.packed.runs.get(run as usize).copied()
+    }
+
+    /// Whether a run has parts.
+    pub fn has_arguments(&self, run: u32) -> bool {
+        match self.run(run) {
+            Some(PackedRun::App(_, count, _)) => count > 0,
+            Some(PackedRun::Literal(_, _)) => false,
+            Some(PackedRun::Hole(_)) => false,
+            None => false,
+        }
+    }
+
+    /// The number of a production's function.
+    pub fn fun(&self, production: u32) -> u32 {
+        match self.concrete.prods.get(production as usize) {
+            Some(production) => production.fun,
+            None => u32::MAX, // excluded by the forest: its productions are those of the concrete syntax
+        }
+    }
+
+    /// The name of a function.
+    pub fn name(&self, fun: u32) -> &'a str {
+        let abs = self.abs;
+        match abs.funs.get(fun as usize) {
+            Some(fun) => fun.name.as_str(),
+            None => "", // excluded by the grammar's invariant: functions are in range
+        }
     }
 }
 
