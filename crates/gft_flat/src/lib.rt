@@ -5,6 +5,7 @@ mod abstracts;
 mod declarations;
 mod entries;
 mod flattening;
+mod instances;
 mod kinds;
 mod languages;
 mod start;
