@@ -40,8 +40,8 @@ fn of_literals(literals: &Literals, place: usize, cat: &Cat) -> Number {
         return None;
     }
     match place {
-        0 => u64::try_from(literals.int_count()).ok(),
-        1 => u64::try_from(literals.word_count()).ok(),
+        0 => Some(u64::from(literals.int_count())),
+        1 => Some(u64::from(literals.word_count())),
         _ => Some(0),
     }
 }

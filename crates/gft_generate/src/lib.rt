@@ -2,10 +2,16 @@
 #![tactic(auto)]
 
 mod counting;
+mod depths;
+mod goals;
 mod heads;
+mod keys;
+mod listing;
 mod literals;
-mod prefix;
-mod search;
-mod skeletal;
+mod space;
+mod splitting;
+mod tables;
+mod tally;
+mod walk;
 
-pub use search::trees;
+pub use listing::trees;

@@ -67,28 +67,28 @@ impl Literals {
     }
 
     /// How many integers there are.
-    pub fn int_count(&self) -> usize {
-        self.ints.len()
+    pub fn int_count(&self) -> u32 {
+        u32::try_from(self.ints.len()).unwrap_or(u32::MAX)
     }
 
     /// How many words there are.
-    pub fn word_count(&self) -> usize {
-        self.words.len()
+    pub fn word_count(&self) -> u32 {
+        u32::try_from(self.words.len()).unwrap_or(u32::MAX)
     }
 
-    /// The integer at a place, from 0.
-    pub fn int(&self, place: usize) -> Tree {
-        match self.ints.get_index(place) {
-            None => Tree::Int(0), // places are below their number
-            Some(number) => Tree::Int(*number),
+    /// The integer at a place, from 0. 0 past the end.
+    pub fn int(&self, place: u32) -> u128 {
+        match self.ints.get_index(place as usize) {
+            None => 0, // places are below their number
+            Some(number) => *number,
         }
     }
 
     /// The word at a place, from 0.
-    pub fn word(&self, alloc: Global, place: usize) -> Result<Tree, NoMemory> {
-        match self.words.get_index(place) {
-            None => Ok(Tree::Int(0)), // places are below their number
-            Some((_, word)) => Ok(Tree::Str(word.copy(alloc)?)),
+    pub fn word(&self, place: u32) -> Option<&Token> {
+        match self.words.get_index(place as usize) {
+            None => None,
+            Some((_, word)) => Some(word),
         }
     }
 }
