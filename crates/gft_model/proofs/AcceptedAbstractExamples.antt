@@ -23,6 +23,7 @@ use Rattle.gft_model.specs.InstanceFaults.{replaced, BreaksInstance, in_declared
 use Rattle.gft_model.specs.JudgementOrder.{Before, none, needed, not_needed, Turns, no_turn, typed_already, its_turn, IsMet}
 use Rattle.gft_model.specs.Modules.{Is, Has, own, Declared, Writes, is_interface, is_incomplete}
 use Rattle.gft_model.specs.NameFaults
+use Rattle.gft_model.specs.NameFaults.{scoped_parts}
 use Rattle.gft_model.specs.Refusals.{Moment, IsAccepted}
 use Rattle.gft_model.specs.Resolution.{Locals, resolved_judgement}
 use Rattle.gft_model.proofs.AcceptedHeaderExamples.{had, written, e_header, e_redefines_none}
@@ -31,8 +32,8 @@ use Rattle.gft_model.proofs.AcceptedNamesExamples.{one_of, none_of, named, abstr
 -- WHAT IS TYPED
 
 -- what holds of all that is to have a turn and of all that may be needed holds of all that has one
-before_are : {es funs : List FlatJudgement} {e : FlatJudgement} {fs ns : List FlatJudgement} (P : FlatJudgement → Type 0) →
-    Before es funs e fs ns →
+before_are : {Rests : FlatJudgement → FlatJudgement → Type 0} {e : FlatJudgement} {fs ns : List FlatJudgement} (P : FlatJudgement → Type 0) →
+    Before Rests e fs ns →
     ((f : FlatJudgement) → Contains fs f → P f) → (f : FlatJudgement) → Contains ns f → P f
 before_are P none h f c = absurd (none_of c)
 before_are P (needed d n b) h g (zero, c, e) = h g (0, omega arith, e)
@@ -48,8 +49,8 @@ in_either (y ∷ xs) ys P h k x (zero, b, e) = h x (0, omega arith, e)
 in_either (y ∷ xs) ys P h k x (suc n, b, e) =
     in_either xs ys P (λ z i. h z (suc i.0, omega (arith, i.1), i.2)) k x (n, omega (arith, b), e)
 
-pub turns_are : {es funs list typed todo order : List FlatJudgement} (P : FlatJudgement → Type 0) →
-    Turns es funs list typed todo order → ((f : FlatJudgement) → Contains list f → P f) →
+pub turns_are : {Rests : FlatJudgement → FlatJudgement → Type 0} {list typed todo order : List FlatJudgement} (P : FlatJudgement → Type 0) →
+    Turns Rests list typed todo order → ((f : FlatJudgement) → Contains list f → P f) →
     ((f : FlatJudgement) → Contains todo f → P f) → (f : FlatJudgement) → Contains order f → P f
 turns_are P no_turn h k f c = absurd (none_of c)
 turns_are P (typed_already t d) h k f c = turns_are P d h (λ g i. k g (suc i.0, omega (arith, i.1), i.2)) f c
@@ -144,7 +145,7 @@ got (y ∷ xs) (suc k) e = let c = got xs k e in (suc c.0, omega (arith, c.1), c
 
 module _ (mods : List Module) (file : ℕ) (is_constructor : List ℕ → Bool) where
   within_none : {xs : Locals} {b : Bool} {e : Term} → NameFaults.Within mods (abstract_e file) is_constructor xs b e → ⊥
-  within_none (NameFaults.in_judgement {p = p} c d) = none_of (subst (λ j. Contains (judgement_parts j) p) (sym (one_of c)) d)
+  within_none (NameFaults.in_judgement {p = p} c d) = none_of (subst (λ j. Contains (scoped_parts j) p) (sym (one_of c)) d)
   within_none (NameFaults.in_term w n c) = within_none w
 
   uses_none : {q : Option (List ℕ)} {n : PlacedName} → NameFaults.Uses mods (abstract_e file) is_constructor q n → ⊥

@@ -22,6 +22,7 @@ use Rattle.gft_syntax.specs.Terms.{Layer}
 use Rattle.gft_model.specs.Flats.{IsOf}
 use Rattle.gft_model.specs.Modules.{declares, own, own_text, header_mentions, judgements_of, placed_names}
 use Rattle.gft_model.specs.NameFaults
+use Rattle.gft_model.specs.NameFaults.{scoped_parts}
 use Rattle.gft_model.specs.Resolution.{Locals}
 
 -- the only element of a list of one, and that an empty list has none
@@ -89,7 +90,7 @@ module _ (is_constructor : List ℕ → Bool) where
   term_is : {xs : Locals} {b : Bool} {e : Term} → NameFaults.Within mods e_eng is_constructor xs b e →
       (out-Term e ≡ type_layer) ⊎ (out-Term e ≡ str_layer)
   term_is (NameFaults.in_judgement {j} {p} c d) =
-      let there = subst (λ i. Contains (judgement_parts i) p) (sym (one_of c)) d in
+      let there = subst (λ i. Contains (scoped_parts i) p) (sym (one_of c)) d in
       inl (ap (λ (q : Part Term). out-Term q.part) (sym (one_of there)) ∙ out-roll-Term type_layer)
   term_is (NameFaults.in_term {e} {p} w n c) = below (term_is w) where
     below : (out-Term e ≡ type_layer) ⊎ (out-Term e ≡ str_layer) → (out-Term p.part ≡ type_layer) ⊎ (out-Term p.part ≡ str_layer)

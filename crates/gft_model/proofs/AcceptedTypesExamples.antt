@@ -21,7 +21,7 @@ use Rattle.gft_syntax.specs.declared.term.Term.TheOpen as T
 use Rattle.gft_syntax.specs.Parts.{is_value}
 use Rattle.gft_syntax.specs.Terms.{Layer}
 use Rattle.gft_model.specs.ConcreteTypes.{function_in}
-use Rattle.gft_model.specs.ConcreteTyping.{Checks, is_term_first, passes, Spine, applied_to, at_head, IsType, text_type, labels, label, no_label, type_form, found, same}
+use Rattle.gft_model.specs.ConcreteTyping.{Checks, is_term_first, passes, Spine, applied_to, at_head, IsType, text_type, labels, label, no_label, type_form, a_type, found, same}
 use Rattle.gft_model.specs.JudgementTyping.{items}
 use Rattle.gft_model.specs.PatternTyping.{Scope}
 use Rattle.gft_model.specs.Refusals.{Moment}
@@ -169,7 +169,7 @@ module _ (flat : Flat) where
 
   checks_sort : {Γ : Scope} {e : Term} {A : CType} → IsType (items flat) e A → is_term_first (form e) ≡ false →
       passes (form e) (out-CType sort_type) ≡ false → (t : LinTerm) × Checks (items flat) Γ e sort_type t
-  checks_sort a f p = (no_value, found p (type_form f a) same)
+  checks_sort a f p = (no_value, found p (type_form f (a_type a)) same)
 
   no_first : {Γ : Scope} {at : Moment} {e : Term} {m : Mode} {r : Role} → StandsIn flat sites at Γ (a_term e) m r →
       is_term_first (form e) ≡ false
@@ -187,7 +187,6 @@ module _ (flat : Flat) where
   no_term h (TypeFaults.lambda_is_no_function f g i) = no_form h f (λ j. cc) (λ j. cc)
   no_term h (TypeFaults.lambda_is_no_table f g i) = no_form h f (λ j. cc) (λ j. cc)
   no_term h (TypeFaults.table_is_no_table f g i) = no_form h f (λ j. cc) (λ j. cc)
-  no_term h (TypeFaults.undefined_parameter f c) = no_form h f (λ j. cc) (λ j. cc)
   no_term h (TypeFaults.no_first_case f g) = no_form h f (λ j. cc) (λ j. cc)
   no_term h (TypeFaults.no_first_branch f g) = no_form h f (λ j. cc) (λ j. cc)
   no_term h (TypeFaults.no_first_item f g) = no_form h f (λ j. cc) (λ j. cc)
@@ -214,7 +213,6 @@ module _ (flat : Flat) where
       let none = ap (λ A. function_in (out-CType A)) same ∙ type.2 in cc
   no_term h (TypeFaults.argument_not_finite f t g) = let role = (stands h).role in cc
   no_term h (TypeFaults.over_no_finite o f g) = over_none h o
-  no_term h (TypeFaults.too_many_numbers f g i l) = no_form h f (λ j. cc) (λ j. cc)
   no_term h (TypeFaults.over_too_many o f l) = over_none h o
   no_term h (TypeFaults.value_left_out o d f) = over_none h o
   no_term h (TypeFaults.no_alternative f o g n) = overload_none h o
@@ -225,6 +223,8 @@ module _ (flat : Flat) where
   no_sort h (TypeFaults.undefined_type f s t i) = no_form h f (λ j. cc) (λ j. cc)
   no_sort h (TypeFaults.overload_is_no_type f s c) = no_form h f (λ j. cc) (λ j. cc)
   no_sort h (TypeFaults.form_of_no_type c n t) = let type = type_there h in t type.0 type.1
+  no_sort h (TypeFaults.undefined_parameter f s) = no_form h f (λ j. cc) (λ j. cc)
+  no_sort h (TypeFaults.too_many_numbers f g i l) = no_form h f (λ j. cc) (λ j. cc)
   no_sort h (TypeFaults.too_many_values f p l) = no_form h f (λ j. cc) (λ j. cc)
 
   no_pattern : {at : Moment} {Γ : Scope} {p : Pattern} {m : Mode} {r : Role} → StandsIn flat sites at Γ (a_pattern p) m r → ⊥

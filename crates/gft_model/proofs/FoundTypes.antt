@@ -18,7 +18,7 @@ use Rattle.gft_syntax.specs.declared.term.Term.{Term}
 use Rattle.gft_syntax.specs.declared.term.Term.TheOpen as F
 use Rattle.gft_syntax.specs.Parts.{is_value}
 use Rattle.gft_model.specs.ConcreteTypes.{record_in, table_in, IsSubtype, equal, fewer_labels, tables, numbers, functions}
-use Rattle.gft_model.specs.ConcreteTyping.{is_term_first, is_table_expression, passes, Spine, applied_to, at_head, Fits, same, cut, sort, IsType, IsData, an_overload, Stands, Takes, takes_none, takes, Suits, suits_by, Chosen, parameter_of, AreLabels, no_label, label, text_type, type_of_types, type_of_parameters, numbers_to, labels, table_over, function_from, pair_of, parameters_named, oper_named, definition_named, with_names, with_lets, Finds, Checks, FindsAll, none_found, next_found, MembersFind, first_member, MembersCheck, no_member, member, BranchesFind, first_branch, BranchesCheck, no_branch, branch, FieldsHave, no_field, value_given, value_found, typed_given, typed_alone, Defines, no_local, local, typed_local, variable, constructor_name, typed_oper, untyped_oper, parameter_name, literal, append, glue, number, predef, projection, application, overloaded, selection, branch_over, branch_of, item_of, case_found, table_found, list_found, record_found, extension, typed, let_found, variants_found, lambda, table_lambda, branches, listed, record_given, let_given, case_given, variants_given, empty_type, parameter_given, found, type_form}
+use Rattle.gft_model.specs.ConcreteTyping.{is_term_first, is_table_expression, passes, Spine, applied_to, at_head, Fits, same, cut, sort, IsType, IsData, an_overload, Stands, Takes, takes_none, takes, Suits, suits_by, Chosen, parameter_of, AreLabels, no_label, label, text_type, type_of_types, type_of_parameters, numbers_to, labels, table_over, function_from, pair_of, parameters_named, oper_named, definition_named, with_names, with_lets, Finds, Checks, FindsAll, none_found, next_found, MembersFind, first_member, MembersCheck, no_member, member, BranchesFind, first_branch, BranchesCheck, no_branch, branch, FieldsHave, no_field, value_given, value_found, typed_given, typed_alone, Defines, no_local, local, typed_local, variable, constructor_name, typed_oper, untyped_oper, parameter_name, bare_parameter_name, IsTypeForm, a_type, some_numbers, literal, append, glue, number, predef, projection, application, overloaded, selection, branch_over, branch_of, item_of, case_found, table_found, list_found, record_found, extension, typed, let_found, variants_found, lambda, table_lambda, branches, listed, record_given, let_given, case_given, variants_given, empty_type, parameter_given, found, type_form}
 use Rattle.gft_model.specs.Items.{Item}
 use Rattle.gft_model.specs.PatternTyping.{Scope}
 use Rattle.gft_model.specs.TypeForms.{form, record_type}
@@ -193,6 +193,15 @@ module _ (items : List Item) where
   typed-form (oper_named m h i j k l) n = let k = ap is_term_first (sym h) ∙ n in absurd (apart (sym k))
   typed-form (definition_named m h i j k) n = let k = ap is_term_first (sym h) ∙ n in absurd (apart (sym k))
 
+  -- so for forms that are types wherever they stand
+  form-typed : {e : Term} → IsTypeForm items e → is_term_first (form e) ≡ false → is_type_form (form e) ≡ true
+  form-typed (a_type t) n = typed-form t n
+  form-typed (some_numbers h i j) n = ap is_type_form h
+
+  ints-form : {d g b : Term} {p : Place} → IsTypeForm items d → form d ≡ F.App g b p → (q : Place) × (form g ≡ F.Sort Sort.Ints q)
+  ints-form (a_type t) e = ints_head t e
+  ints-form (some_numbers {q = q} h i j) e = (q, cc)
+
   fields_labels : {d : Term} {T : CType} {ls : List (Local Term)} {p : Place} → IsType items d T → form d ≡ F.Fields ls p → (fs : List (List ℕ × CType)) × AreLabels items ls fs
   fields_labels (text_type h) e = absurd (cc)
   fields_labels (type_of_types h) e = absurd (cc)
@@ -206,6 +215,10 @@ module _ (items : List Item) where
   fields_labels (oper_named n h i j k l) e = absurd (cc)
   fields_labels (definition_named n h i j k) e = absurd (cc)
 
+  fields-form : {d : Term} {ls : List (Local Term)} {p : Place} → IsTypeForm items d → form d ≡ F.Fields ls p → (fs : List (List ℕ × CType)) × AreLabels items ls fs
+  fields-form (a_type t) e = fields_labels t e
+  fields-form (some_numbers h i j) e = absurd (cc)
+
   no-mix : {Γ : Scope} {ls ks : List (Local Term)} {fs gs hs : List (List ℕ × CType)} {ts : List (List ℕ × LinTerm)} → AreLabels items ls fs → FieldsHave items Γ gs ks hs ts → ls ≡ ks → ls ≡ []
   no-mix no_label d e = refl
   no-mix (label a b c) no_field e = e
@@ -214,23 +227,23 @@ module _ (items : List Item) where
   no-mix (label a b c) (typed_given x y z w v) e = cc
   no-mix (label a b c) (typed_alone x y z w v) e = cc
 
-  no_ints_var : {e d f g a : Term} {es xs : List Term} {T : CType} {w : Whole} {p q : Place} → form e ≡ F.App f a q → Spine f es g xs → form g ≡ F.Var (WholeName w) p → IsType items d T → e ≡ d → ⊥
-  no_ints_var k (applied_to m s) h t e = let i = ints_head t (ap form (sym e) ∙ k) in let j = i.1 in cc
-  no_ints_var k (at_head n) h t e = let i = ints_head t (ap form (sym e) ∙ k) in let j = i.1 in cc
+  no_ints_var : {e d f g a : Term} {es xs : List Term} {w : Whole} {p q : Place} → form e ≡ F.App f a q → Spine f es g xs → form g ≡ F.Var (WholeName w) p → IsTypeForm items d → e ≡ d → ⊥
+  no_ints_var k (applied_to m s) h t e = let i = ints-form t (ap form (sym e) ∙ k) in let j = i.1 in cc
+  no_ints_var k (at_head n) h t e = let i = ints-form t (ap form (sym e) ∙ k) in let j = i.1 in cc
 
-  no_record : {Γ : Scope} {e d : Term} {T : CType} {ls : List (Local Term)} {p : Place} {gs fs : List (List ℕ × CType)} {ts : List (List ℕ × LinTerm)} →
-      form e ≡ F.Fields ls p → FieldsHave items Γ gs ls fs ts → is_term_first (form d) ≡ false → IsType items d T → e ≡ d → ⊥
+  no_record : {Γ : Scope} {e d : Term} {ls : List (Local Term)} {p : Place} {gs fs : List (List ℕ × CType)} {ts : List (List ℕ × LinTerm)} →
+      form e ≡ F.Fields ls p → FieldsHave items Γ gs ls fs ts → is_term_first (form d) ≡ false → IsTypeForm items d → e ≡ d → ⊥
   no_record {ls = ls} {p = p} h f k t e =
-      let l = fields_labels t (ap form (sym e) ∙ h) in
+      let l = fields-form t (ap form (sym e) ∙ h) in
       let m = no-mix l.1 f refl in
-      let n : false ≡ true = ap (λ (xs : List (Local Term)). is_type_form (F.Fields xs p)) (sym m) ∙ ap is_type_form (sym h ∙ ap form e) ∙ typed-form t k in
+      let n : false ≡ true = ap (λ (xs : List (Local Term)). is_type_form (F.Fields xs p)) (sym m) ∙ ap is_type_form (sym h ∙ ap form e) ∙ form-typed t k in
       apart n
 
   takes-once : {F G R S : CType} {As Bs : List CType} {t s u v : LinTerm} {us vs : List LinTerm} → Takes items F t As us R u → Takes items G s Bs vs S v → F ≡ G → t ≡ s → As ≡ Bs → us ≡ vs → (R ≡ S) × (u ≡ v)
   takes-once (takes_none a) (takes_none b) e f g h = (e, f)
-  takes-once (takes_none a) (takes b0 b1 b2) e f g h = (cc, cc)
-  takes-once (takes a0 a1 a2) (takes_none b) e f g h = (cc, cc)
-  takes-once (takes a0 a1 a2) (takes b0 b1 b2) e f g h = let i = fits-same a1 b1 (cc) (cc) (cc) in takes-once a2 b2 (cc) (cc) (cc) (cc)
+  takes-once (takes_none a) (takes b0 m b1 b2) e f g h = (cc, cc)
+  takes-once (takes a0 l a1 a2) (takes_none b) e f g h = (cc, cc)
+  takes-once (takes a0 l a1 a2) (takes b0 m b1 b2) e f g h = let i = fits-same a1 b1 (cc) (cc) (cc) in takes-once a2 b2 (cc) (cc) (cc) (cc)
 
   suits-along : {w v : Whole} {As Bs : List CType} {us vs : List LinTerm} {j : ℕ} {S : CType} {z : LinTerm} → w ≡ v → As ≡ Bs → us ≡ vs → Suits items v Bs vs j S z → Suits items w As us j S z
   suits-along {w = w} {v = v} {As = As} {Bs = Bs} {us = us} {vs = vs} {j = j} {S = S} {z = z} e f g s =
@@ -249,6 +262,7 @@ module _ (items : List Item) where
   form_of (untyped_oper {w = w} k {p = p} a0 a1 a2) = F.Var (WholeName w) p
   form_of (overloaded {w = w} k {p = p} (at_head n) a1 a2 a3 a4) = F.Var (WholeName w) p
   form_of (parameter_name {w = w} {p = p} a0 a1) = F.Var (WholeName w) p
+  form_of (bare_parameter_name {w = w} {p = p} a0 a1) = F.Var (WholeName w) p
   form_of (literal {text = s} {p = p} a0) = F.Lit s p
   form_of (append {a = a} {b = b} {p = p} a0 a1 a2) = F.Concat a b p
   form_of (glue {a = a} {b = b} {p = p} a0 a1 a2) = F.Glue a b p
@@ -278,6 +292,7 @@ module _ (items : List Item) where
   form_is (untyped_oper k a0 a1 a2) = a0
   form_is (overloaded k (at_head n) a1 a2 a3 a4) = a1
   form_is (parameter_name a0 a1) = a0
+  form_is (bare_parameter_name a0 a1) = a0
   form_is (literal a0) = a0
   form_is (append a0 a1 a2) = a0
   form_is (glue a0 a1 a2) = a0
@@ -319,8 +334,12 @@ module _ (items : List Item) where
   sort-type (oper_named n h i j k l) = ap is_written_sort h
   sort-type (definition_named n h i j k) = ap is_written_sort h
 
+  sort-form : {e : Term} → IsTypeForm items e → is_written_sort (form e) ≡ true
+  sort-form (a_type t) = sort-type t
+  sort-form (some_numbers h i j) = ap is_written_sort h
+
   sort-found : {Γ : Scope} {e : Term} {T : CType} {t : LinTerm} → Finds items Γ e T t → is_written_sort (form e) ≡ true
-  sort-found (type_form a0 a1) = sort-type a1
+  sort-found (type_form a0 a1) = sort-form a1
   sort-found (overloaded k (applied_to h s) a1 a2 a3 a4) = ap is_written_sort h
   sort-found (overloaded k (at_head n) a1 a2 a3 a4) = ap is_written_sort a1
   sort-found d = ap is_written_sort (form_is d)
@@ -328,13 +347,13 @@ module _ (items : List Item) where
   no-sort-found : {Γ : Scope} {e : Term} {T : CType} {t : LinTerm} {l : F.Term-F Term} → Finds items Γ e T t → form e ≡ l → is_written_sort l ≡ false → ⊥
   no-sort-found d h k = apart (sym k ∙ ap is_written_sort (sym h) ∙ sort-found d)
 
-  no_ints : {Γ : Scope} {e d f a : Term} {T S : CType} {t : LinTerm} {p : Place} → form e ≡ F.App f a p → Finds items Γ f S t → IsType items d T → e ≡ d → ⊥
-  no_ints k h t e = let i = ints_head t (ap form (sym e) ∙ k) in no-sort-found h i.1 refl
+  no_ints : {Γ : Scope} {e d f a : Term} {S : CType} {t : LinTerm} {p : Place} → form e ≡ F.App f a p → Finds items Γ f S t → IsTypeForm items d → e ≡ d → ⊥
+  no_ints k h t e = let i = ints-form t (ap form (sym e) ∙ k) in no-sort-found h i.1 refl
 
   -- what an overload gives is data, and what is applied is none
   taken-data : {F R : CType} {As : List CType} {t u : LinTerm} {us : List LinTerm} → Takes items F t As us R u → IsData R
   taken-data (takes_none d) = d
-  taken-data (takes a b c) = taken-data c
+  taken-data (takes a s b c) = taken-data c
 
   suited-data : {w : Whole} {As : List CType} {us : List LinTerm} {k : ℕ} {R : CType} {u : LinTerm} → Suits items w As us k R u → IsData R
   suited-data (suits_by a0 a1 a2) = taken-data a2
@@ -351,6 +370,7 @@ module _ (items : List Item) where
   overload-found (untyped_oper m a0 a1 a2) (applied_to k s) q h o e = cc
   overload-found (untyped_oper m a0 a1 a2) (at_head n) q h o e = cc
   overload-found (parameter_name a0 a1) s q h o e = let k = out-roll-CType C.TypeSort in cc
+  overload-found (bare_parameter_name a0 a1) s q h o e = let k = out-roll-CType C.TypeSort in cc
   overload-found (type_form a0 a1) s q h o e = let k = out-roll-CType C.TypeSort in cc
   overload-found d (applied_to k s) q h o e = apart-tags _ _ refl (ap tag (sym k ∙ ap form (sym q) ∙ form_is d))
   overload-found d (at_head n) q h o e = apart-tags _ _ refl (ap tag (sym h ∙ ap form (sym q) ∙ form_is d))
@@ -374,7 +394,7 @@ module _ (items : List Item) where
   check_form (case_given {b = b} {cs = cs} {p = p} a0 a1 a2 a3) = F.CaseOf b cs p
   check_form (variants_given {es = es} {p = p} a0 a1) = F.Variants es p
   check_form (empty_type {p = p} a0) = F.Fields [] p
-  check_form (parameter_given {w = w} {p = p} a0 a1 a2 a3) = F.Var (WholeName w) p
+  check_form (parameter_given {w = w} {p = p} a0 a1 a2) = F.Var (WholeName w) p
   check_form (found {e = e} a0 a1 a2) = form e
 
   pub check_form_is : {Γ : Scope} {e : Term} {T : CType} {t : LinTerm} (d : Checks items Γ e T t) → form e ≡ check_form d
@@ -387,7 +407,7 @@ module _ (items : List Item) where
   check_form_is (case_given a0 a1 a2 a3) = a0
   check_form_is (variants_given a0 a1) = a0
   check_form_is (empty_type a0) = a0
-  check_form_is (parameter_given a0 a1 a2 a3) = a0
+  check_form_is (parameter_given a0 a1 a2) = a0
   check_form_is (found a0 a1 a2) = refl
 
   pub fields-empty : {Γ : Scope} {gs fs : List (List ℕ × CType)} {ls : List (Local Term)} {ts : List (List ℕ × LinTerm)} → FieldsHave items Γ gs ls fs ts → ls ≡ [] → fs ≡ []
@@ -413,6 +433,7 @@ module _ (items : List Item) where
   empty-found (untyped_oper ak a0 a1 a2) h = cc
   empty-found (overloaded ak (at_head an) a0 a1 none_found a2) h = cc
   empty-found (parameter_name a0 a1) h = cc
+  empty-found (bare_parameter_name a0 a1) h = cc
   empty-found (literal a0) h = cc
   empty-found (append a0 a1 a2) h = cc
   empty-found (glue a0 a1 a2) h = cc
@@ -433,12 +454,12 @@ module _ (items : List Item) where
   empty-found (typed a0 a1 a2) h = cc
   empty-found (let_found a0 a1 a2) h = cc
   empty-found (variants_found a0 a1) h = cc
-  empty-found {p = p} (type_form a0 a1) h = let k : is_type_form (F.Fields [] p) ≡ true = ap is_type_form (sym h) ∙ typed-form a1 a0 in absurd (apart k)
+  empty-found {p = p} (type_form a0 a1) h = let k : is_type_form (F.Fields [] p) ≡ true = ap is_type_form (sym h) ∙ form-typed a1 a0 in absurd (apart k)
 
   mutual
     pub find-once : {Γ Δ : Scope} {e f : Term} {S T : CType} {t u : LinTerm} → Finds items Γ e S t → Finds items Δ f T u → Γ ≡ Δ → e ≡ f → (S ≡ T) × (t ≡ u)
     find-once (variable a0 a1) (variable b0 b1) g e = (cc, cc)
-    find-once (variable a0 a1) (type_form b0 b1) g e = let k : false ≡ true = ap is_type_form (sym a0 ∙ ap form e) ∙ typed-form b1 b0 in absurd (apart k)
+    find-once (variable a0 a1) (type_form b0 b1) g e = let k : false ≡ true = ap is_type_form (sym a0 ∙ ap form e) ∙ form-typed b1 b0 in absurd (apart k)
     find-once (variable a0 a1) (overloaded bk b0 b1 b2 b3 b4) g e = absurd (not-overload b0 b1 a0 e refl refl)
     find-once (variable a0 a1) d g e = absurd (apart-tags _ _ refl (same-tag a0 e (form_is d)))
     find-once (constructor_name a0 a1 a2 a3) (constructor_name b0 b1 b2 b3) g e = let i = parameter-once items a2 b2 (cc) in let j = same-arguments a3 b3 i (cc) in (cc, cc)
@@ -446,7 +467,8 @@ module _ (items : List Item) where
     find-once (constructor_name a0 a1 a2 a3) (untyped_oper bk b0 b1 b2) g e = (cc, cc)
     find-once (constructor_name a0 a1 a2 a3) (overloaded bk (at_head bn) b0 b1 none_found b2) g e = (cc, cc)
     find-once (constructor_name a0 a1 a2 a3) (parameter_name b0 (parameter_of b1 b2 b3)) g e = (cc, cc)
-    find-once (constructor_name a0 a1 a2 a3) (type_form b0 b1) g e = let k : false ≡ true = ap is_type_form (sym a0 ∙ ap form e) ∙ typed-form b1 b0 in absurd (apart k)
+    find-once (constructor_name a0 a1 a2 a3) (bare_parameter_name b0 b1) g e = (cc, cc)
+    find-once (constructor_name a0 a1 a2 a3) (type_form b0 b1) g e = let k : false ≡ true = ap is_type_form (sym a0 ∙ ap form e) ∙ form-typed b1 b0 in absurd (apart k)
     find-once (constructor_name a0 a1 a2 a3) (overloaded bk (applied_to bh bsp) b1 b2 b3 b4) g e = absurd (apart-tags _ _ refl (same-tag a0 e bh))
     find-once (constructor_name a0 a1 a2 a3) d g e = absurd (apart-tags _ _ refl (same-tag a0 e (form_is d)))
     find-once (typed_oper ak a0 a1 a2) (typed_oper bk b0 b1 b2) g e = let i = type-once items a2 b2 (cc) in (i, cc)
@@ -454,7 +476,8 @@ module _ (items : List Item) where
     find-once (typed_oper ak a0 a1 a2) (untyped_oper bk b0 b1 b2) g e = (cc, cc)
     find-once (typed_oper ak a0 a1 a2) (overloaded bk (at_head bn) b0 b1 none_found b2) g e = (cc, cc)
     find-once (typed_oper ak a0 a1 a2) (parameter_name b0 (parameter_of b1 b2 b3)) g e = (cc, cc)
-    find-once (typed_oper ak a0 a1 a2) (type_form b0 b1) g e = let k : false ≡ true = ap is_type_form (sym a0 ∙ ap form e) ∙ typed-form b1 b0 in absurd (apart k)
+    find-once (typed_oper ak a0 a1 a2) (bare_parameter_name b0 b1) g e = (cc, cc)
+    find-once (typed_oper ak a0 a1 a2) (type_form b0 b1) g e = let k : false ≡ true = ap is_type_form (sym a0 ∙ ap form e) ∙ form-typed b1 b0 in absurd (apart k)
     find-once (typed_oper ak a0 a1 a2) (overloaded bk (applied_to bh bsp) b1 b2 b3 b4) g e = absurd (apart-tags _ _ refl (same-tag a0 e bh))
     find-once (typed_oper ak a0 a1 a2) d g e = absurd (apart-tags _ _ refl (same-tag a0 e (form_is d)))
     find-once (untyped_oper ak a0 a1 a2) (untyped_oper bk b0 b1 b2) g e = let i = find-once a2 b2 refl (cc) in (i.0, cc)
@@ -462,7 +485,8 @@ module _ (items : List Item) where
     find-once (untyped_oper ak a0 a1 a2) (typed_oper bk b0 b1 b2) g e = (cc, cc)
     find-once (untyped_oper ak a0 a1 a2) (overloaded bk (at_head bn) b0 b1 none_found b2) g e = (cc, cc)
     find-once (untyped_oper ak a0 a1 a2) (parameter_name b0 (parameter_of b1 b2 b3)) g e = (cc, cc)
-    find-once (untyped_oper ak a0 a1 a2) (type_form b0 b1) g e = let k : false ≡ true = ap is_type_form (sym a0 ∙ ap form e) ∙ typed-form b1 b0 in absurd (apart k)
+    find-once (untyped_oper ak a0 a1 a2) (bare_parameter_name b0 b1) g e = (cc, cc)
+    find-once (untyped_oper ak a0 a1 a2) (type_form b0 b1) g e = let k : false ≡ true = ap is_type_form (sym a0 ∙ ap form e) ∙ form-typed b1 b0 in absurd (apart k)
     find-once (untyped_oper ak a0 a1 a2) (overloaded bk (applied_to bh bsp) b1 b2 b3 b4) g e = absurd (apart-tags _ _ refl (same-tag a0 e bh))
     find-once (untyped_oper ak a0 a1 a2) d g e = absurd (apart-tags _ _ refl (same-tag a0 e (form_is d)))
     find-once (overloaded ak (at_head an) a0 a1 none_found a2) (overloaded bk (at_head bn) b0 b1 none_found b2) g e = chosen-once a2 b2 (cc) refl refl
@@ -470,40 +494,51 @@ module _ (items : List Item) where
     find-once (overloaded ak (at_head an) a0 a1 none_found a2) (typed_oper bk b0 b1 b2) g e = (cc, cc)
     find-once (overloaded ak (at_head an) a0 a1 none_found a2) (untyped_oper bk b0 b1 b2) g e = (cc, cc)
     find-once (overloaded ak (at_head an) a0 a1 none_found a2) (parameter_name b0 (parameter_of b1 b2 b3)) g e = (cc, cc)
-    find-once (overloaded ak (at_head an) a0 a1 none_found a2) (type_form b0 b1) g e = let k : false ≡ true = ap is_type_form (sym a0 ∙ ap form e) ∙ typed-form b1 b0 in absurd (apart k)
+    find-once (overloaded ak (at_head an) a0 a1 none_found a2) (bare_parameter_name b0 b1) g e = (cc, cc)
+    find-once (overloaded ak (at_head an) a0 a1 none_found a2) (type_form b0 b1) g e = let k : false ≡ true = ap is_type_form (sym a0 ∙ ap form e) ∙ form-typed b1 b0 in absurd (apart k)
     find-once (overloaded ak (at_head an) a0 a1 none_found a2) d g e = absurd (apart-tags _ _ refl (same-tag a0 e (form_is d)))
     find-once (parameter_name a0 a1) (parameter_name b0 b1) g e = (refl, refl)
+    find-once (parameter_name a0 (parameter_of a1 a2 a3)) (bare_parameter_name b0 b1) g e = (cc, cc)
     find-once (parameter_name a0 (parameter_of a1 a2 a3)) (constructor_name b0 b1 b2 b3) g e = (cc, cc)
     find-once (parameter_name a0 (parameter_of a1 a2 a3)) (typed_oper bk b0 b1 b2) g e = (cc, cc)
     find-once (parameter_name a0 (parameter_of a1 a2 a3)) (untyped_oper bk b0 b1 b2) g e = (cc, cc)
     find-once (parameter_name a0 (parameter_of a1 a2 a3)) (overloaded bk (at_head bn) b0 b1 none_found b2) g e = (cc, cc)
-    find-once (parameter_name a0 a1) (type_form b0 b1) g e = let k : false ≡ true = ap is_type_form (sym a0 ∙ ap form e) ∙ typed-form b1 b0 in absurd (apart k)
+    find-once (parameter_name a0 a1) (type_form b0 b1) g e = let k : false ≡ true = ap is_type_form (sym a0 ∙ ap form e) ∙ form-typed b1 b0 in absurd (apart k)
     find-once (parameter_name a0 a1) (overloaded bk (applied_to bh bsp) b1 b2 b3 b4) g e = absurd (apart-tags _ _ refl (same-tag a0 e bh))
     find-once (parameter_name a0 a1) d g e = absurd (apart-tags _ _ refl (same-tag a0 e (form_is d)))
+    find-once (bare_parameter_name a0 a1) (bare_parameter_name b0 b1) g e = (refl, refl)
+    find-once (bare_parameter_name a0 a1) (parameter_name b0 (parameter_of b1 b2 b3)) g e = (cc, cc)
+    find-once (bare_parameter_name a0 a1) (constructor_name b0 b1 b2 b3) g e = (cc, cc)
+    find-once (bare_parameter_name a0 a1) (typed_oper bk b0 b1 b2) g e = (cc, cc)
+    find-once (bare_parameter_name a0 a1) (untyped_oper bk b0 b1 b2) g e = (cc, cc)
+    find-once (bare_parameter_name a0 a1) (overloaded bk (at_head bn) b0 b1 none_found b2) g e = (cc, cc)
+    find-once (bare_parameter_name a0 a1) (type_form b0 b1) g e = let k : false ≡ true = ap is_type_form (sym a0 ∙ ap form e) ∙ form-typed b1 b0 in absurd (apart k)
+    find-once (bare_parameter_name a0 a1) (overloaded bk (applied_to bh bsp) b1 b2 b3 b4) g e = absurd (apart-tags _ _ refl (same-tag a0 e bh))
+    find-once (bare_parameter_name a0 a1) d g e = absurd (apart-tags _ _ refl (same-tag a0 e (form_is d)))
     find-once (literal a0) (literal b0) g e = (refl, cc)
-    find-once (literal a0) (type_form b0 b1) g e = let k : false ≡ true = ap is_type_form (sym a0 ∙ ap form e) ∙ typed-form b1 b0 in absurd (apart k)
+    find-once (literal a0) (type_form b0 b1) g e = let k : false ≡ true = ap is_type_form (sym a0 ∙ ap form e) ∙ form-typed b1 b0 in absurd (apart k)
     find-once (literal a0) (overloaded bk b0 b1 b2 b3 b4) g e = absurd (not-overload b0 b1 a0 e refl refl)
     find-once (literal a0) d g e = absurd (apart-tags _ _ refl (same-tag a0 e (form_is d)))
     find-once (append a0 a1 a2) (append b0 b1 b2) g e = let i = check-once a1 b1 g (cc) refl in let j = check-once a2 b2 g (cc) refl in (refl, cc)
-    find-once (append a0 a1 a2) (type_form b0 b1) g e = let k : false ≡ true = ap is_type_form (sym a0 ∙ ap form e) ∙ typed-form b1 b0 in absurd (apart k)
+    find-once (append a0 a1 a2) (type_form b0 b1) g e = let k : false ≡ true = ap is_type_form (sym a0 ∙ ap form e) ∙ form-typed b1 b0 in absurd (apart k)
     find-once (append a0 a1 a2) (overloaded bk b0 b1 b2 b3 b4) g e = absurd (not-overload b0 b1 a0 e refl refl)
     find-once (append a0 a1 a2) d g e = absurd (apart-tags _ _ refl (same-tag a0 e (form_is d)))
     find-once (glue a0 a1 a2) (glue b0 b1 b2) g e = let i = check-once a1 b1 g (cc) refl in let j = check-once a2 b2 g (cc) refl in (refl, cc)
-    find-once (glue a0 a1 a2) (type_form b0 b1) g e = let k : false ≡ true = ap is_type_form (sym a0 ∙ ap form e) ∙ typed-form b1 b0 in absurd (apart k)
+    find-once (glue a0 a1 a2) (type_form b0 b1) g e = let k : false ≡ true = ap is_type_form (sym a0 ∙ ap form e) ∙ form-typed b1 b0 in absurd (apart k)
     find-once (glue a0 a1 a2) (overloaded bk b0 b1 b2 b3 b4) g e = absurd (not-overload b0 b1 a0 e refl refl)
     find-once (glue a0 a1 a2) d g e = absurd (apart-tags _ _ refl (same-tag a0 e (form_is d)))
     find-once (number a0) (number b0) g e = (cc, cc)
-    find-once (number a0) (type_form b0 b1) g e = let k : false ≡ true = ap is_type_form (sym a0 ∙ ap form e) ∙ typed-form b1 b0 in absurd (apart k)
+    find-once (number a0) (type_form b0 b1) g e = let k : false ≡ true = ap is_type_form (sym a0 ∙ ap form e) ∙ form-typed b1 b0 in absurd (apart k)
     find-once (number a0) (overloaded bk b0 b1 b2 b3 b4) g e = absurd (not-overload b0 b1 a0 e refl refl)
     find-once (number a0) d g e = absurd (apart-tags _ _ refl (same-tag a0 e (form_is d)))
     find-once (predef a0 a1 a2) (predef b0 b1 b2) g e = (refl, cc)
     find-once (predef a0 a1 a2) (projection b0 b1 b2 b3) g e = absurd (no-sort-found b1 (apart-heads a0 b0 e a1) refl)
-    find-once (predef a0 a1 a2) (type_form b0 b1) g e = let k : false ≡ true = ap is_type_form (sym a0 ∙ ap form e) ∙ typed-form b1 b0 in absurd (apart k)
+    find-once (predef a0 a1 a2) (type_form b0 b1) g e = let k : false ≡ true = ap is_type_form (sym a0 ∙ ap form e) ∙ form-typed b1 b0 in absurd (apart k)
     find-once (predef a0 a1 a2) (overloaded bk b0 b1 b2 b3 b4) g e = absurd (not-overload b0 b1 a0 e refl refl)
     find-once (predef a0 a1 a2) d g e = absurd (apart-tags _ _ refl (same-tag a0 e (form_is d)))
     find-once (projection a0 a1 a2 a3) (projection b0 b1 b2 b3) g e = let i = find-once a1 b1 g (cc) in (cc, cc)
     find-once (projection a0 a1 a2 a3) (predef b0 b1 b2) g e = absurd (no-sort-found a1 (apart-heads b0 a0 (sym e) b1) refl)
-    find-once (projection a0 a1 a2 a3) (type_form b0 b1) g e = let k : false ≡ true = ap is_type_form (sym a0 ∙ ap form e) ∙ typed-form b1 b0 in absurd (apart k)
+    find-once (projection a0 a1 a2 a3) (type_form b0 b1) g e = let k : false ≡ true = ap is_type_form (sym a0 ∙ ap form e) ∙ form-typed b1 b0 in absurd (apart k)
     find-once (projection a0 a1 a2 a3) (overloaded bk b0 b1 b2 b3 b4) g e = absurd (not-overload b0 b1 a0 e refl refl)
     find-once (projection a0 a1 a2 a3) d g e = absurd (apart-tags _ _ refl (same-tag a0 e (form_is d)))
     find-once (application a0 a1 a2 a3) (application b0 b1 b2 b3) g e = let i = find-once a1 b1 g (cc) in let j = check-once a3 b3 g (cc) (cc) in (cc, cc)
@@ -519,40 +554,40 @@ module _ (items : List Item) where
     find-once (selection a0 a1 a2 a3 a4) (branch_over b0 b1 b2 b3 b4 b5) g e = absurd (apart-tables a0 b0 e a1 (ap is_table_expression b1))
     find-once (selection a0 a1 a2 a3 a4) (branch_of b0 b1 b2 b3 b4) g e = absurd (apart-tables a0 b0 e a1 (ap is_table_expression b1))
     find-once (selection a0 a1 a2 a3 a4) (item_of b0 b1 b2 b3 b4 b5 b6) g e = absurd (apart-tables a0 b0 e a1 (ap is_table_expression b1))
-    find-once (selection a0 a1 a2 a3 a4) (type_form b0 b1) g e = let k : false ≡ true = ap is_type_form (sym a0 ∙ ap form e) ∙ typed-form b1 b0 in absurd (apart k)
+    find-once (selection a0 a1 a2 a3 a4) (type_form b0 b1) g e = let k : false ≡ true = ap is_type_form (sym a0 ∙ ap form e) ∙ form-typed b1 b0 in absurd (apart k)
     find-once (selection a0 a1 a2 a3 a4) (overloaded bk b0 b1 b2 b3 b4) g e = absurd (not-overload b0 b1 a0 e refl refl)
     find-once (selection a0 a1 a2 a3 a4) d g e = absurd (apart-tags _ _ refl (same-tag a0 e (form_is d)))
     find-once (branch_over a0 a1 a2 a3 a4 a5) (branch_over b0 b1 b2 b3 b4 b5) g e = let i = type-once items a2 b2 (cc) in let j = branches-found a3 b3 g i (cc) in let l = check-once a5 b5 g (cc) i in (j.0, cc)
     find-once (branch_over a0 a1 a2 a3 a4 a5) (selection b0 b1 b2 b3 b4) g e = absurd (apart-tables b0 a0 (sym e) b1 (ap is_table_expression a1))
     find-once (branch_over a0 a1 a2 a3 a4 a5) (branch_of b0 b1 b2 b3 b4) g e = (cc, cc)
     find-once (branch_over a0 a1 a2 a3 a4 a5) (item_of b0 b1 b2 b3 b4 b5 b6) g e = (cc, cc)
-    find-once (branch_over a0 a1 a2 a3 a4 a5) (type_form b0 b1) g e = let k : false ≡ true = ap is_type_form (sym a0 ∙ ap form e) ∙ typed-form b1 b0 in absurd (apart k)
+    find-once (branch_over a0 a1 a2 a3 a4 a5) (type_form b0 b1) g e = let k : false ≡ true = ap is_type_form (sym a0 ∙ ap form e) ∙ form-typed b1 b0 in absurd (apart k)
     find-once (branch_over a0 a1 a2 a3 a4 a5) (overloaded bk b0 b1 b2 b3 b4) g e = absurd (not-overload b0 b1 a0 e refl refl)
     find-once (branch_over a0 a1 a2 a3 a4 a5) d g e = absurd (apart-tags _ _ refl (same-tag a0 e (form_is d)))
     find-once (branch_of a0 a1 a2 a3 a4) (branch_of b0 b1 b2 b3 b4) g e = let i = find-once a2 b2 g (cc) in let j = branches-found a3 b3 g i.0 (cc) in (j.0, cc)
     find-once (branch_of a0 a1 a2 a3 a4) (selection b0 b1 b2 b3 b4) g e = absurd (apart-tables b0 a0 (sym e) b1 (ap is_table_expression a1))
     find-once (branch_of a0 a1 a2 a3 a4) (branch_over b0 b1 b2 b3 b4 b5) g e = (cc, cc)
     find-once (branch_of a0 a1 a2 a3 a4) (item_of b0 b1 b2 b3 b4 b5 b6) g e = (cc, cc)
-    find-once (branch_of a0 a1 a2 a3 a4) (type_form b0 b1) g e = let k : false ≡ true = ap is_type_form (sym a0 ∙ ap form e) ∙ typed-form b1 b0 in absurd (apart k)
+    find-once (branch_of a0 a1 a2 a3 a4) (type_form b0 b1) g e = let k : false ≡ true = ap is_type_form (sym a0 ∙ ap form e) ∙ form-typed b1 b0 in absurd (apart k)
     find-once (branch_of a0 a1 a2 a3 a4) (overloaded bk b0 b1 b2 b3 b4) g e = absurd (not-overload b0 b1 a0 e refl refl)
     find-once (branch_of a0 a1 a2 a3 a4) d g e = absurd (apart-tags _ _ refl (same-tag a0 e (form_is d)))
     find-once (item_of a0 a1 a2 a3 a4 a5 a6) (item_of b0 b1 b2 b3 b4 b5 b6) g e = let i = type-once items a2 b2 (cc) in let j = members-found a4 b4 g (cc) in let l = check-once a6 b6 g (cc) i in (j.0, cc)
     find-once (item_of a0 a1 a2 a3 a4 a5 a6) (selection b0 b1 b2 b3 b4) g e = absurd (apart-tables b0 a0 (sym e) b1 (ap is_table_expression a1))
     find-once (item_of a0 a1 a2 a3 a4 a5 a6) (branch_over b0 b1 b2 b3 b4 b5) g e = (cc, cc)
     find-once (item_of a0 a1 a2 a3 a4 a5 a6) (branch_of b0 b1 b2 b3 b4) g e = (cc, cc)
-    find-once (item_of a0 a1 a2 a3 a4 a5 a6) (type_form b0 b1) g e = let k : false ≡ true = ap is_type_form (sym a0 ∙ ap form e) ∙ typed-form b1 b0 in absurd (apart k)
+    find-once (item_of a0 a1 a2 a3 a4 a5 a6) (type_form b0 b1) g e = let k : false ≡ true = ap is_type_form (sym a0 ∙ ap form e) ∙ form-typed b1 b0 in absurd (apart k)
     find-once (item_of a0 a1 a2 a3 a4 a5 a6) (overloaded bk b0 b1 b2 b3 b4) g e = absurd (not-overload b0 b1 a0 e refl refl)
     find-once (item_of a0 a1 a2 a3 a4 a5 a6) d g e = absurd (apart-tags _ _ refl (same-tag a0 e (form_is d)))
     find-once (case_found a0 a1 a2 a3) (case_found b0 b1 b2 b3) g e = let i = find-once a1 b1 g (cc) in let j = branches-found a2 b2 g i.0 (cc) in (j.0, cc)
-    find-once (case_found a0 a1 a2 a3) (type_form b0 b1) g e = let k : false ≡ true = ap is_type_form (sym a0 ∙ ap form e) ∙ typed-form b1 b0 in absurd (apart k)
+    find-once (case_found a0 a1 a2 a3) (type_form b0 b1) g e = let k : false ≡ true = ap is_type_form (sym a0 ∙ ap form e) ∙ form-typed b1 b0 in absurd (apart k)
     find-once (case_found a0 a1 a2 a3) (overloaded bk b0 b1 b2 b3 b4) g e = absurd (not-overload b0 b1 a0 e refl refl)
     find-once (case_found a0 a1 a2 a3) d g e = absurd (apart-tags _ _ refl (same-tag a0 e (form_is d)))
     find-once (table_found a0 a1 a2 a3 a4) (table_found b0 b1 b2 b3 b4) g e = let i = type-once items a1 b1 (cc) in let j = branches-found a3 b3 g i (cc) in (cc, cc)
-    find-once (table_found a0 a1 a2 a3 a4) (type_form b0 b1) g e = let k : false ≡ true = ap is_type_form (sym a0 ∙ ap form e) ∙ typed-form b1 b0 in absurd (apart k)
+    find-once (table_found a0 a1 a2 a3 a4) (type_form b0 b1) g e = let k : false ≡ true = ap is_type_form (sym a0 ∙ ap form e) ∙ form-typed b1 b0 in absurd (apart k)
     find-once (table_found a0 a1 a2 a3 a4) (overloaded bk b0 b1 b2 b3 b4) g e = absurd (not-overload b0 b1 a0 e refl refl)
     find-once (table_found a0 a1 a2 a3 a4) d g e = absurd (apart-tags _ _ refl (same-tag a0 e (form_is d)))
     find-once (list_found a0 a1 a2 a3 a4) (list_found b0 b1 b2 b3 b4) g e = let i = type-once items a1 b1 (cc) in let j = members-found a3 b3 g (cc) in (cc, cc)
-    find-once (list_found a0 a1 a2 a3 a4) (type_form b0 b1) g e = let k : false ≡ true = ap is_type_form (sym a0 ∙ ap form e) ∙ typed-form b1 b0 in absurd (apart k)
+    find-once (list_found a0 a1 a2 a3 a4) (type_form b0 b1) g e = let k : false ≡ true = ap is_type_form (sym a0 ∙ ap form e) ∙ form-typed b1 b0 in absurd (apart k)
     find-once (list_found a0 a1 a2 a3 a4) (overloaded bk b0 b1 b2 b3 b4) g e = absurd (not-overload b0 b1 a0 e refl refl)
     find-once (list_found a0 a1 a2 a3 a4) d g e = absurd (apart-tags _ _ refl (same-tag a0 e (form_is d)))
     find-once (record_found a0 a1) (record_found b0 b1) g e = let i = fields-have a1 b1 g refl (cc) in (cc, cc)
@@ -560,26 +595,26 @@ module _ (items : List Item) where
     find-once (record_found a0 a1) (overloaded bk b0 b1 b2 b3 b4) g e = absurd (not-overload b0 b1 a0 e refl refl)
     find-once (record_found a0 a1) d g e = absurd (apart-tags _ _ refl (same-tag a0 e (form_is d)))
     find-once (extension a0 a1 a2 a3 a4) (extension b0 b1 b2 b3 b4) g e = let i = find-once a1 b1 g (cc) in let j = find-once a3 b3 g (cc) in (same-extension i.0 j.0 a2 a4 b2 b4, cc)
-    find-once (extension a0 a1 a2 a3 a4) (type_form b0 b1) g e = let k : false ≡ true = ap is_type_form (sym a0 ∙ ap form e) ∙ typed-form b1 b0 in absurd (apart k)
+    find-once (extension a0 a1 a2 a3 a4) (type_form b0 b1) g e = let k : false ≡ true = ap is_type_form (sym a0 ∙ ap form e) ∙ form-typed b1 b0 in absurd (apart k)
     find-once (extension a0 a1 a2 a3 a4) (overloaded bk b0 b1 b2 b3 b4) g e = absurd (not-overload b0 b1 a0 e refl refl)
     find-once (extension a0 a1 a2 a3 a4) d g e = absurd (apart-tags _ _ refl (same-tag a0 e (form_is d)))
     find-once (typed a0 a1 a2) (typed b0 b1 b2) g e = let i = type-once items a1 b1 (cc) in let j = check-once a2 b2 g (cc) i in (i, j)
-    find-once (typed a0 a1 a2) (type_form b0 b1) g e = let k : false ≡ true = ap is_type_form (sym a0 ∙ ap form e) ∙ typed-form b1 b0 in absurd (apart k)
+    find-once (typed a0 a1 a2) (type_form b0 b1) g e = let k : false ≡ true = ap is_type_form (sym a0 ∙ ap form e) ∙ form-typed b1 b0 in absurd (apart k)
     find-once (typed a0 a1 a2) (overloaded bk b0 b1 b2 b3 b4) g e = absurd (not-overload b0 b1 a0 e refl refl)
     find-once (typed a0 a1 a2) d g e = absurd (apart-tags _ _ refl (same-tag a0 e (form_is d)))
     find-once (let_found a0 a1 a2) (let_found b0 b1 b2) g e = let i = defines-once a1 b1 g (cc) in let j = find-once a2 b2 i.0 (cc) in (j.0, cc)
-    find-once (let_found a0 a1 a2) (type_form b0 b1) g e = let k : false ≡ true = ap is_type_form (sym a0 ∙ ap form e) ∙ typed-form b1 b0 in absurd (apart k)
+    find-once (let_found a0 a1 a2) (type_form b0 b1) g e = let k : false ≡ true = ap is_type_form (sym a0 ∙ ap form e) ∙ form-typed b1 b0 in absurd (apart k)
     find-once (let_found a0 a1 a2) (overloaded bk b0 b1 b2 b3 b4) g e = absurd (not-overload b0 b1 a0 e refl refl)
     find-once (let_found a0 a1 a2) d g e = absurd (apart-tags _ _ refl (same-tag a0 e (form_is d)))
     find-once (variants_found a0 a1) (variants_found b0 b1) g e = let i = members-found a1 b1 g (cc) in (i.0, cc)
-    find-once (variants_found a0 a1) (type_form b0 b1) g e = let k : false ≡ true = ap is_type_form (sym a0 ∙ ap form e) ∙ typed-form b1 b0 in absurd (apart k)
+    find-once (variants_found a0 a1) (type_form b0 b1) g e = let k : false ≡ true = ap is_type_form (sym a0 ∙ ap form e) ∙ form-typed b1 b0 in absurd (apart k)
     find-once (variants_found a0 a1) (overloaded bk b0 b1 b2 b3 b4) g e = absurd (not-overload b0 b1 a0 e refl refl)
     find-once (variants_found a0 a1) d g e = absurd (apart-tags _ _ refl (same-tag a0 e (form_is d)))
     find-once (type_form a0 a1) (type_form b0 b1) g e = (refl, refl)
     find-once (type_form a0 a1) (application b0 b1 b2 b3) g e = absurd (no_ints b0 b1 a1 (sym e))
     find-once (type_form a0 a1) (overloaded bk (applied_to bh bsp) b1 b2 b3 b4) g e = absurd (no_ints_var bh bsp b1 a1 (sym e))
     find-once (type_form a0 a1) (record_found b0 b1) g e = absurd (no_record b0 b1 a0 a1 (sym e))
-    find-once (type_form a0 a1) d g e = let k : is_type_form (form_of d) ≡ true = ap is_type_form (sym (form_is d) ∙ ap form (sym e)) ∙ typed-form a1 a0 in absurd (apart k)
+    find-once (type_form a0 a1) d g e = let k : is_type_form (form_of d) ≡ true = ap is_type_form (sym (form_is d) ∙ ap form (sym e)) ∙ form-typed a1 a0 in absurd (apart k)
 
     pub check-once : {Γ Δ : Scope} {e f : Term} {S T : CType} {t u : LinTerm} → Checks items Γ e S t → Checks items Δ f T u → Γ ≡ Δ → e ≡ f → S ≡ T → t ≡ u
     check-once (found a0 a1 a2) (found b0 b1 b2) g e s = let i = find-once a1 b1 g e in fits-same a2 b2 i.0 s i.1
@@ -621,10 +656,10 @@ module _ (items : List Item) where
     check-once (empty_type a0) (found b0 b1 b2) g e s = let i = empty-found b1 (ap form (sym e) ∙ a0) in absurd (no-fit_record b2 (ap out-CType i ∙ out-roll-CType (C.Record []), ap out-CType (sym s) ∙ out-roll-CType C.TypeSort))
     check-once (empty_type a0) (record_given b0 b1 b2 b3) g e s = let i = out-roll-CType C.TypeSort in cc
     check-once (empty_type a0) d g e s = absurd (apart-tags _ _ refl (same-tag a0 e (check_form_is d)))
-    check-once (parameter_given a0 a1 a2 a3) (parameter_given b0 b1 b2 b3) g e s = (find-once a1 b1 g e).1
-    check-once (found a0 a1 a2) (parameter_given b0 b1 b2 b3) g e s = let i = find-once a1 b1 g e in absurd (no-fit a2 (ap out-CType i.0 ∙ out-roll-CType C.TypeSort, ap out-CType s ∙ out-roll-CType C.ParamSort))
-    check-once (parameter_given a0 a1 a2 a3) (found b0 b1 b2) g e s = let i = find-once a1 b1 g e in absurd (no-fit b2 (ap out-CType (sym i.0) ∙ out-roll-CType C.TypeSort, ap out-CType (sym s) ∙ out-roll-CType C.ParamSort))
-    check-once (parameter_given a0 a1 a2 a3) d g e s = absurd (apart-tags _ _ refl (same-tag a0 e (check_form_is d)))
+    check-once (parameter_given a0 a1 a2) (parameter_given b0 b1 b2) g e s = (find-once a1 b1 g e).1
+    check-once (found a0 a1 a2) (parameter_given b0 b1 b2) g e s = let i = find-once a1 b1 g e in absurd (no-fit a2 (ap out-CType i.0 ∙ out-roll-CType C.TypeSort, ap out-CType s ∙ out-roll-CType C.ParamSort))
+    check-once (parameter_given a0 a1 a2) (found b0 b1 b2) g e s = let i = find-once a1 b1 g e in absurd (no-fit b2 (ap out-CType (sym i.0) ∙ out-roll-CType C.TypeSort, ap out-CType (sym s) ∙ out-roll-CType C.ParamSort))
+    check-once (parameter_given a0 a1 a2) d g e s = absurd (apart-tags _ _ refl (same-tag a0 e (check_form_is d)))
 
     all-once : {Γ Δ : Scope} {es ds : List Term} {As Bs : List CType} {us vs : List LinTerm} → FindsAll items Γ es As us → FindsAll items Δ ds Bs vs → Γ ≡ Δ → es ≡ ds → (As ≡ Bs) × (us ≡ vs)
     all-once none_found none_found g e = (refl, refl)

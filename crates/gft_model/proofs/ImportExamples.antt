@@ -33,13 +33,15 @@ module _ (files : Files) (lacks : get files no_gf ≡ None) where
   not_there : {bytes : List ℕ} → get files no_gf ≡ Some bytes → ⊥
   not_there {bytes} e = let wrong : None ≡ Some bytes = sym lacks ∙ e in cc
 
-  only_missing : {r : Refusal} → Loading.Fails files Loading.most_bytes (Loading.BreaksSource 0 (codes "No")) no_gf r → r ≡ missing_file
+  only_missing : {r : Refusal} → Loading.IsUnread files Loading.most_bytes no_gf r → r ≡ missing_file
   only_missing (Loading.missing e) = refl
   only_missing (Loading.too_long e h) = absurd (not_there e)
-  only_missing (Loading.broken b x) = absurd (not_there b.0)
+
+  not_broken : {r : Refusal} → Loading.IsBroken files Loading.most_bytes (Loading.BreaksSource 0 (codes "No")) no_gf r → ⊥
+  not_broken (Loading.broken b x) = not_there b.0
 
   outcome : Loading.Outcome
-  outcome = Loading.refused missing_file (Loading.with_file Loading.nothing_loaded no_gf)
+  outcome = Loading.refused missing_file Loading.nothing_loaded
 
   none_loaded : (M : List ℕ) → Loading.IsLoaded Loading.nothing_loaded M → ⊥
   none_loaded M l = let e = l.1 in cc
@@ -48,14 +50,14 @@ module _ (files : Files) (lacks : get files no_gf ≡ None) where
   unfolding outcome
   comes =
       Loading.source_refused (codes "No", refl)
-      (Loading.loaded_now (none_loaded (codes "No")) (omega arith) (Loading.fails (Loading.missing lacks)))
+      (Loading.loaded_now (none_loaded (codes "No")) (omega arith) (Loading.unread (Loading.missing lacks)))
 
   only_got : {o : Loading.Outcome} → Loading.Gets files [] [] Loading.nothing_loaded (codes "No") o → o ≡ outcome
   unfolding outcome
   only_got (Loading.loaded_before l) = absurd (none_loaded (codes "No") l)
   only_got (Loading.too_many n h) = absurd (omega (arith, h))
-  only_got (Loading.loaded_now n h (Loading.fails f)) =
-      ap (λ r. Loading.refused r (Loading.with_file Loading.nothing_loaded no_gf)) (only_missing f)
+  only_got (Loading.loaded_now n h (Loading.unread f)) = ap (λ r. Loading.refused r Loading.nothing_loaded) (only_missing f)
+  only_got (Loading.loaded_now n h (Loading.is_broken f)) = absurd (not_broken f)
   only_got (Loading.loaded_now n h (Loading.needs_refused b x p d)) = absurd (not_there b.0)
   only_got (Loading.loaded_now n h (Loading.complete b x p d)) = absurd (not_there b.0)
 

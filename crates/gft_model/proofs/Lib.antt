@@ -28,6 +28,7 @@ pub mod JudgementLaws
 pub mod ProductionExamples
 pub mod ItemExamples
 pub mod NameExamples
+pub mod InstanceExamples
 pub mod TypingExamples
 pub mod PatternLaws
 pub mod TypeLaws

@@ -1,5 +1,5 @@
 -- What an import loads is determined: the outcome, and so the files.
-use Rattle.std.proofs.Common.{◌≡◌, refl, sym, ap, ◌∙◌, subst, append_assoc, ℕ, List, [], ◌∷◌, ◌++◌, arith, length}
+use Rattle.std.proofs.Common.{◌≡◌, ◌⊎◌, inl, inr, refl, sym, ap, ◌∙◌, subst, append_assoc, ℕ, List, [], ◌∷◌, ◌++◌, arith, length}
 use Rattle.std.specs.Prelude.{codes, Option, Some, None, decimal}
 use Rattle.gft_io.specs.Outside.{Files}
 use Rattle.gft_pmcfg.specs.declared.grammar.Grammar.{Grammar}
@@ -17,7 +17,7 @@ use Rattle.gft_model.proofs.SourceLemmas.{one_list_of_tokens}
 use Rattle.gft_model.proofs.TokenLaws.{tokens_apart}
 use Rattle.gft_model.proofs.UnsolvedLaws.{last_once}
 use Rattle.gft_model.specs.Commands.{EndsIn, source_ending, portable_ending}
-use Rattle.gft_model.specs.Loading.{Loading, Outcome, loaded, refused, IsSource, BreaksSource, bad_characters, bad_slices, misnamed, BreaksPortable, at_field, is_invalid, HasBytes, Fails, missing, too_long, broken, Gets, loaded_before, too_many, loaded_now, Loads, fails, needs_refused, complete, LoadsAll, no_more, waits_for_it, next_refused, next_loaded, LoadsNamed, none_named, source_refused, source_loaded, portable_refused, portable_read, HasFiles, with_file, file_in, flaw_text, after_all, after_refusal}
+use Rattle.gft_model.specs.Loading.{Loading, Outcome, loaded, refused, IsSource, BreaksSource, bad_characters, bad_slices, misnamed, BreaksPortable, at_field, is_invalid, HasBytes, IsUnread, missing, too_long, IsBroken, broken, Gets, loaded_before, too_many, loaded_now, Loads, unread, is_broken, needs_refused, complete, LoadsAll, no_more, waits_for_it, next_refused, next_loaded, LoadsNamed, none_named, source_refused, source_loaded, portable_refused, portable_read, HasFiles, with_file, file_in, flaw_text, after_all, after_refusal}
 use Rattle.gft_model.specs.ModuleGrammar.{SpellsModule}
 use Rattle.gft_model.specs.Modules.{header_name, mentions}
 use Rattle.gft_model.specs.PortableFile
@@ -94,23 +94,40 @@ module_once : {found : Option (List ℕ)} {n : ℕ} {bytes others : List ℕ} {m
 module_once {n} {m} e x f y = source_once (subst (λ z. IsSource n z m) (one_bytes e f) x) y
 
 module _ {files : Files} where
-  module _ {most : ℕ} {Broken : List ℕ → Refusal → Type 0} {file : List ℕ} where
-    fails_once : {r q : Refusal} → ((bytes : List ℕ) → Broken bytes r → Broken bytes q → r ≡ q)
-        → Fails files most Broken file r → Fails files most Broken file q → r ≡ q
-    fails_once once (missing e) (missing f) = refl
-    fails_once once (missing e) (too_long f h) = absurd (none_there e f)
-    fails_once once (missing e) (broken b x) = absurd (none_there e b.0)
-    fails_once once (too_long f h) (missing e) = absurd (none_there e f)
-    fails_once once (too_long f h) (too_long g k) = refl
-    fails_once once (too_long f h) (broken b x) = absurd (omega (arith, h, b.1, ap length (one_bytes f b.0)))
-    fails_once once (broken b x) (missing e) = absurd (none_there e b.0)
-    fails_once once (broken b x) (too_long f h) = absurd (omega (arith, h, b.1, ap length (one_bytes f b.0)))
-    fails_once {r} once (broken b x) (broken {bytes} c y) = once bytes (subst (λ z. Broken z r) (one_bytes b.0 c.0) x) y
+  module _ {most : ℕ} {file : List ℕ} where
+    unread_once : {r q : Refusal} → IsUnread files most file r → IsUnread files most file q → r ≡ q
+    unread_once (missing e) (missing f) = refl
+    unread_once (missing e) (too_long f h) = absurd (none_there e f)
+    unread_once (too_long f h) (missing e) = absurd (none_there e f)
+    unread_once (too_long f h) (too_long g k) = refl
 
-    reads_apart : {bytes : List ℕ} {r : Refusal} → HasBytes files most file bytes → (Broken bytes r → ⊥) → Fails files most Broken file r → ⊥
-    reads_apart b n (missing e) = none_there e b.0
-    reads_apart b n (too_long f h) = omega (arith, h, b.1, ap length (one_bytes f b.0))
+    has_no_bytes : {bytes : List ℕ} {r : Refusal} → HasBytes files most file bytes → IsUnread files most file r → ⊥
+    has_no_bytes b (missing e) = none_there e b.0
+    has_no_bytes b (too_long f h) = omega (arith, h, b.1, ap length (one_bytes f b.0))
+
+  module _ {most : ℕ} {Broken : List ℕ → Refusal → Type 0} {file : List ℕ} where
+    unread_apart : {r q : Refusal} → IsUnread files most file r → IsBroken files most Broken file q → ⊥
+    unread_apart u (broken b x) = has_no_bytes b u
+
+    broken_once : {r q : Refusal} → ((bytes : List ℕ) → Broken bytes r → Broken bytes q → r ≡ q)
+        → IsBroken files most Broken file r → IsBroken files most Broken file q → r ≡ q
+    broken_once {r} once (broken b x) (broken {bytes} c y) = once bytes (subst (λ z. Broken z r) (one_bytes b.0 c.0) x) y
+
+    reads_apart : {bytes : List ℕ} {r : Refusal} → HasBytes files most file bytes → (Broken bytes r → ⊥) → IsBroken files most Broken file r → ⊥
     reads_apart {r} b n (broken c x) = n (subst (λ z. Broken z r) (one_bytes c.0 b.0) x)
+
+    -- a file that is refused is unread or broken
+    refused_once : {r q : Refusal} → ((bytes : List ℕ) → Broken bytes r → Broken bytes q → r ≡ q)
+        → IsUnread files most file r ⊎ IsBroken files most Broken file r → IsUnread files most file q ⊎ IsBroken files most Broken file q → r ≡ q
+    refused_once once (inl u) (inl v) = unread_once u v
+    refused_once once (inl u) (inr c) = absurd (unread_apart u c)
+    refused_once once (inr b) (inl v) = absurd (unread_apart v b)
+    refused_once once (inr b) (inr c) = broken_once once b c
+
+    refused_apart : {bytes : List ℕ} {r : Refusal} → HasBytes files most file bytes → (Broken bytes r → ⊥)
+        → IsUnread files most file r ⊎ IsBroken files most Broken file r → ⊥
+    refused_apart b n (inl u) = has_no_bytes b u
+    refused_apart b n (inr c) = reads_apart b n c
 
   -- LOADING
 
@@ -134,14 +151,21 @@ module _ {files : Files} where
 
       loads_once : {waiting : List (List ℕ)} {s : Loading} {M : List ℕ} {o p : Outcome} → Loads files folder waiting s M o
           → Loads files folder waiting s M p → o ≡ p
-      loads_once {s} {M} (fails f) (fails g) =
-          ap (λ r. refused r (with_file s (file_in folder M))) (fails_once (λ b. source_broken_once) f g)
-      loads_once (fails f) (needs_refused b x p d) = absurd (reads_apart b (source_apart x p) f)
-      loads_once (fails f) (complete b x p d) = absurd (reads_apart b (source_apart x p) f)
-      loads_once (needs_refused b x p d) (fails f) = absurd (reads_apart b (source_apart x p) f)
+      loads_once {s} (unread f) (unread g) = ap (λ r. refused r s) (unread_once f g)
+      loads_once (unread f) (is_broken g) = absurd (unread_apart f g)
+      loads_once (is_broken f) (unread g) = absurd (unread_apart g f)
+      loads_once {s} {M} (is_broken f) (is_broken g) =
+          ap (λ r. refused r (with_file s (file_in folder M))) (broken_once (λ b. source_broken_once) f g)
+      loads_once (unread f) (needs_refused b x p d) = absurd (has_no_bytes b f)
+      loads_once (unread f) (complete b x p d) = absurd (has_no_bytes b f)
+      loads_once (is_broken f) (needs_refused b x p d) = absurd (reads_apart b (source_apart x p) f)
+      loads_once (is_broken f) (complete b x p d) = absurd (reads_apart b (source_apart x p) f)
+      loads_once (needs_refused b x p d) (unread f) = absurd (has_no_bytes b f)
+      loads_once (needs_refused b x p d) (is_broken f) = absurd (reads_apart b (source_apart x p) f)
       loads_once (needs_refused b x p d) (needs_refused c y q e) = all_once d (needs (module_once b.0 x c.0 y) e)
       loads_once (needs_refused b x p d) (complete c y q e) = let h = all_once d (needs (module_once b.0 x c.0 y) e) in cc
-      loads_once (complete b x p d) (fails f) = absurd (reads_apart b (source_apart x p) f)
+      loads_once (complete b x p d) (unread f) = absurd (has_no_bytes b f)
+      loads_once (complete b x p d) (is_broken f) = absurd (reads_apart b (source_apart x p) f)
       loads_once (complete b x p d) (needs_refused c y q e) = let h = all_once d (needs (module_once b.0 x c.0 y) e) in cc
       loads_once (complete {t} {m} b x p d) (complete {t = u} {m = k} c y q e) =
           let same = module_once b.0 x c.0 y in
@@ -192,11 +216,11 @@ module _ {files : Files} where
   named_once (source_loaded e d ds) (portable_read f b x g) = absurd (endings_apart e f)
   named_once (portable_refused e x) (source_refused f g) = absurd (endings_apart f e)
   named_once (portable_refused e x) (source_loaded f g gs) = absurd (endings_apart f e)
-  named_once {s} (portable_refused e x) (portable_refused f y) = ap (λ r. refused r s) (fails_once (λ b. portable_broken_once) x y)
-  named_once (portable_refused e x) (portable_read f b y g) = absurd (reads_apart b (portable_apart y) x)
+  named_once {s} (portable_refused e x) (portable_refused f y) = ap (λ r. refused r s) (refused_once (λ b. portable_broken_once) x y)
+  named_once (portable_refused e x) (portable_read f b y g) = absurd (refused_apart b (portable_apart y) x)
   named_once (portable_read e b x d) (source_refused f g) = absurd (endings_apart f e)
   named_once (portable_read e b x d) (source_loaded f g gs) = absurd (endings_apart f e)
-  named_once (portable_read e b x d) (portable_refused f y) = absurd (reads_apart b (portable_apart x) y)
+  named_once (portable_read e b x d) (portable_refused f y) = absurd (refused_apart b (portable_apart x) y)
   named_once (portable_read e b x d) (portable_read f c y g) = named_once d g
 
 -- what is loaded in the end

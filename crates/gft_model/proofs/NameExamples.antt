@@ -15,7 +15,7 @@ use Rattle.gft_syntax.specs.declared.term.Sort.TheVariants as Sort
 use Rattle.gft_syntax.specs.declared.term.Term.{Term, roll-Term}
 use Rattle.gft_syntax.specs.declared.term.Term.TheOpen as F
 use Rattle.gft_model.specs.ConcreteTypes.{count_of}
-use Rattle.gft_model.specs.ConcreteTyping.{IsType, IsParameter, parameter_of, constructor, no_constructor, no_argument, parameters_named, definition_named, numbers_to, Finds, Checks, found, type_form, is_term_first, parameter_name, untyped_oper, parameter_given}
+use Rattle.gft_model.specs.ConcreteTyping.{IsType, IsParameter, parameter_of, constructor, no_constructor, no_argument, parameters_named, definition_named, its_name, of_oper, some_numbers, Finds, Checks, found, type_form, is_term_first, parameter_name, untyped_oper, parameter_given}
 use Rattle.gft_model.specs.Items.{Item, parameter_type, oper}
 use Rattle.gft_model.specs.TypeForms.{sort_type, sort_param, made, no_value}
 use Rattle.gft_model.proofs.Computing.{form-roll}
@@ -56,18 +56,18 @@ q_is = definition_named 1 (form-roll _) refl (λ p h. let k = form-roll (F.Var (
     (parameters_named (form-roll _) is_parameter (omega (arith, two_values)))
 
 pub q_fits : Checks both [] (name (codes "Q")) sort_param (made (L.Oper 1))
-q_fits = parameter_given (form-roll _) (untyped_oper 1 (form-roll _) refl (parameter_name (form-roll _) is_parameter)) (inr q_is) (out-roll-CType _)
+q_fits = parameter_given (form-roll _) (untyped_oper 1 (form-roll _) refl (parameter_name (form-roll _) is_parameter)) (of_oper q_is (out-roll-CType _))
 
 -- so does ListC, however many values it has
 pub list_fits : Checks both [] (name (codes "ListC")) sort_param no_value
-list_fits = parameter_given (form-roll _) (parameter_name (form-roll _) is_parameter) (inl is_parameter) (out-roll-CType _)
+list_fits = parameter_given (form-roll _) (parameter_name (form-roll _) is_parameter) (its_name is_parameter)
 
 -- Ints 3 is a type and does not fit PType
 abbrev ints_three : Term
 ints_three = roll-Term (F.App (roll-Term (F.Sort Sort.Ints nowhere)) (roll-Term (F.Num 3 nowhere)) nowhere)
 
 ints_found : Finds both [] ints_three sort_type no_value
-ints_found = type_form (ap is_term_first (form-roll _)) (numbers_to (form-roll _) (form-roll _) (form-roll _) (omega arith))
+ints_found = type_form (ap is_term_first (form-roll _)) (some_numbers (form-roll _) (form-roll _) (form-roll _))
 
 pub ints_do_not_fit : {T : CType} {t : LinTerm} → Checks both [] ints_three T t → T ≡ sort_param → ⊥
 ints_do_not_fit (found a b c) h =

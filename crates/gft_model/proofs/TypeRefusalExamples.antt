@@ -202,7 +202,7 @@ no_alternatives = record exh {
 
 pub no_alternative_to_take : TypeFaults.BreaksTerm no_alternatives [] f_term TypingSites.found TypingSites.any_role [] R.NoOverload (codes "f" ∷ [])
 no_alternative_to_take = TypeFaults.no_alternative (λ e. cc)
-    (TypingSites.has_overload (at_head (λ f a p e. let k = form-roll (T.Var (WholeName (whole (codes "f"))) (here 3 13)) in cc)) (form-roll _) (inr (refl, λ c. absurd (omega (arith, c.1)))))
+    (TypingSites.has_overload (at_head (λ f a p e. let k = form-roll (T.Var (WholeName (whole (codes "f"))) (here 3 13)) in cc)) (form-roll _) (inr refl))
     none_found (λ k B u s. nothing_suits s)
   where
     nothing_suits : {k : ℕ} {B : CType} {u : LinTerm} → Suits (items_of no_alternatives) (whole (codes "f")) [] [] k B u → ⊥

@@ -260,16 +260,16 @@ second_on t u = made (L.App (made (L.App (made (L.Oper 1)) t)) u)
 
 suits_second : (t u : LinTerm) → Suits overload (whole (codes "f")) (str_type ∷ str_type ∷ []) (t ∷ u ∷ []) 1 str_type (second_on t u)
 suits_second t u =
-    suits_by refl two_is (takes (out-roll-CType _) same (takes (out-roll-CType _) same (takes_none (str_data overload))))
+    suits_by refl two_is (takes (out-roll-CType _) equal same (takes (out-roll-CType _) equal same (takes_none (str_data overload))))
 
 -- an alternative with one parameter does not take two arguments
 no_function : {F R : CType} {Ss : List CType} {t u : LinTerm} {vs : List LinTerm} → Takes overload F t Ss vs R u → F ≡ str_type → Ss ≡ str_type ∷ [] → ⊥
 no_function (takes_none a) e g = cc
-no_function (takes a b c) e g = let j = out-roll-CType C.Str in let l = ap out-CType e in cc
+no_function (takes a s b c) e g = let j = out-roll-CType C.Str in let l = ap out-CType e in cc
 
 one_takes_one : {F R : CType} {Ss : List CType} {t u : LinTerm} {vs : List LinTerm} → Takes overload F t Ss vs R u → F ≡ from_str str_type → Ss ≡ str_type ∷ str_type ∷ [] → ⊥
 one_takes_one (takes_none a) e g = cc
-one_takes_one (takes a b c) e g = let k = out-roll-CType (C.Fun str_type str_type) in let l = ap out-CType e in no_function c (cc) (cc)
+one_takes_one (takes a s b c) e g = let k = out-roll-CType (C.Fun str_type str_type) in let l = ap out-CType e in no_function c (cc) (cc)
 
 only_second : (t u : LinTerm) (j : ℕ) (S : CType) (v : LinTerm) → Suits overload (whole (codes "f")) (str_type ∷ str_type ∷ []) (t ∷ u ∷ []) j S v → j ≡ 1
 only_second t u zero S v (suits_by {D = D} a b c) =

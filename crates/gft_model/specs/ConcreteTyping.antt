@@ -28,7 +28,7 @@ use Rattle.gft_model.specs.Matching.{parameter, match_of, is_matched}
 use Rattle.gft_model.specs.PatternTyping.{Scope, PatternFits, Constructs}
 use Rattle.gft_model.specs.TypeForms.{form, str_type, number_type, record_type, table_type, functions, sort_type, sort_param, made, no_value, bound, with_bound, bound_pattern, constructor_term, predef_type, predef_term, predef_named}
 use Rattle.gft_model.specs.Values.{extended}
-pub use Rattle.gft_model.specs.WrittenTypes.{IsData, most_values, IsDomain, for_each, Standing, a_parameter, a_constructor, an_oper, an_overload, nothing, is_constructor, standing_from, At, Stands, IsType, text_type, type_of_types, type_of_parameters, numbers_to, labels, table_over, function_from, pair_of, parameters_named, oper_named, definition_named, IsParameter, parameter_of, AreConstructors, no_constructor, constructor, AreArguments, no_argument, arguments, AreLabels, no_label, label, AreFactors, last_factor, next_factor}
+pub use Rattle.gft_model.specs.WrittenTypes.{IsData, most_values, IsDomain, for_each, Standing, a_parameter, a_bare_parameter, a_constructor, an_oper, an_overload, nothing, is_constructor, standing_from, At, Stands, IsType, text_type, type_of_types, type_of_parameters, numbers_to, labels, table_over, function_from, pair_of, parameters_named, oper_named, definition_named, IsParameter, parameter_of, AreConstructors, no_constructor, constructor, AreArguments, no_argument, arguments, AreLabels, no_label, label, AreFactors, last_factor, next_factor, MeansParameter, its_name, its_bare_name, of_oper, IsTypeForm, a_type, some_numbers}
 
 -- some pattern matches the value
 abbrev pub is_covered : List Pattern → Param → Bool
@@ -93,10 +93,10 @@ pub data Spine : Term → List Term → Term → List Term → Type 0 where
   at_head : {e es : _} → ((f a : Term) (place : Place) → ¬ (form e ≡ Term-F.App f a place)) → Spine e es e es
 
 module _ (items : List Item) where
-  -- a function that takes as many arguments of these types as it has parameters
+  -- a function that takes as many arguments as it has parameters, each of a subtype
   pub data Takes : CType → LinTerm → List CType → List LinTerm → CType → LinTerm → Type 0 where
     takes_none : {R t : _} → IsData R → Takes R t [] [] R t
-    takes : {F A B S R Ss t u v w us : _} → out-CType F ≡ CType-F.Fun A B → Fits S A u v →
+    takes : {F A B S R Ss t u v w us : _} → out-CType F ≡ CType-F.Fun A B → IsSubtype S A → Fits S A u v →
         Takes B (made (Lin-F.App t v)) Ss us R w → Takes F t (S ∷ Ss) (u ∷ us) R w
 
   -- the alternative of that number takes the arguments
@@ -121,7 +121,9 @@ module _ (items : List Item) where
           Stands items w (an_oper k None (Some d)) → Finds [] d T t → Finds Γ e T (made (Lin-F.Oper k))
       parameter_name : {Γ e w p T : _} → form e ≡ Term-F.Var (WholeName w) p → IsParameter items w T →
           Finds Γ e sort_type no_value
-      type_form : {Γ e T : _} → is_term_first (form e) ≡ false → IsType items e T → Finds Γ e sort_type no_value
+      bare_parameter_name : {Γ e w p : _} → form e ≡ Term-F.Var (WholeName w) p → Stands items w a_bare_parameter →
+          Finds Γ e sort_type no_value
+      type_form : {Γ e : _} → is_term_first (form e) ≡ false → IsTypeForm items e → Finds Γ e sort_type no_value
       literal : {Γ e text p : _} → form e ≡ Term-F.Lit text p → Finds Γ e str_type (made (Lin-F.Words (words_of text)))
       append : {Γ e a b p t u : _} → form e ≡ Term-F.Concat a b p → Checks Γ a str_type t → Checks Γ b str_type u →
           Finds Γ e str_type (made (Lin-F.Concat t u))
@@ -183,8 +185,8 @@ module _ (items : List Item) where
       variants_given : {Γ e es p T ts : _} → form e ≡ Term-F.Variants es p → MembersCheck Γ es T ts →
           Checks Γ e T (made (Lin-F.Variants ts))
       empty_type : {Γ e p : _} → form e ≡ Term-F.Fields [] p → Checks Γ e sort_type no_value
-      parameter_given : {Γ e w c ds p T t : _} → form e ≡ Term-F.Var (WholeName w) p → Finds Γ e sort_type t →
-          IsParameter items w T ⊎ IsType items e T → out-CType T ≡ CType-F.Param c ds → Checks Γ e sort_param t
+      parameter_given : {Γ e w p t : _} → form e ≡ Term-F.Var (WholeName w) p → Finds Γ e sort_type t →
+          MeansParameter items e w → Checks Γ e sort_param t
       found : {Γ e S T t u : _} → passes (form e) (out-CType T) ≡ false → Finds Γ e S t → Fits S T t u → Checks Γ e T u
 
     -- terms with the types that are found for them

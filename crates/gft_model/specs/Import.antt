@@ -9,9 +9,9 @@ use Rattle.gft_model.specs.Commands.{EndsIn, portable_ending}
 use Rattle.gft_model.specs.CompileFaults.{BreaksCompiling}
 use Rattle.gft_model.specs.Flats.{AreListed, HasOfPart, IsFlat, functions}
 use Rattle.gft_model.specs.HeaderFaults.{BreaksHeader, Redefines}
-use Rattle.gft_model.specs.InstanceFaults.{BreaksInstance}
+use Rattle.gft_model.specs.InstanceFaults.{IsDeclared, BreaksInstance}
 use Rattle.gft_model.specs.Items.{items_of}
-use Rattle.gft_model.specs.JudgementOrder.{Turns, HasTyped, HasNew, IsMet, typed_again}
+use Rattle.gft_model.specs.JudgementOrder.{RestsOn, Turns, HasTyped, HasNew, IsMet, typed_again}
 use Rattle.gft_model.specs.JudgementTyping.{IsTyped}
 use Rattle.gft_model.specs.Loading.{base_of, Loading, loaded, refused, LoadsNamed, nothing_loaded}
 use Rattle.gft_model.specs.Modules.{is_abstract, is_interface, is_incomplete, header_name, header_mentions, module_named, names_of}
@@ -46,7 +46,8 @@ module _ (mods : List Module) where
   -- what they rest on of interfaces and incomplete modules, then those that are inherited, where they are typed again
   pub data HasOrder (m : Module) (flat : Flat) : List FlatJudgement → List FlatJudgement → Type 0 where
     in_order : {new met order again : _} → AreListed new (HasNew mods (header_mentions m.header) (header_name m.header).name) →
-        AreListed met (IsMet mods) → Turns (entries_of flat) flat.funs (new ++ met) [] new order →
+        AreListed met (IsMet mods) →
+        Turns (RestsOn (IsDeclared mods m) (entries_of flat) flat.funs) (new ++ met) [] new order →
         AreListed again (λ at. HasTyped mods (header_mentions m.header) (header_name m.header).name (0 ∷ at)) →
         HasOrder m flat order again
 

@@ -1,6 +1,8 @@
 -- The order in which the judgements of a module are typed.
 use Rattle.std.specs.Prelude.{◌≡◌, ℕ, suc, List, [], ◌∷◌, ◌++◌, map, flat_map, filter, Bool, true, false, ◌||◌, Contains, Option, Some, None, ◌≢◌, option_to_list, slice_get}
 use Rattle.gft_syntax.specs.declared.flat.FlatJudgement.{FlatJudgement}
+use Rattle.gft_syntax.specs.declared.judgement.Definition.{Definition}
+use Rattle.gft_syntax.specs.declared.judgement.Definition.TheVariants as D
 use Rattle.gft_syntax.specs.declared.judgement.Judgement.{Judgement}
 use Rattle.gft_syntax.specs.declared.judgement.Judgement.TheVariants as J
 use Rattle.gft_syntax.specs.declared.judgement.Keyword.{Keyword}
@@ -8,11 +10,12 @@ use Rattle.gft_syntax.specs.declared.judgement.Keyword.TheVariants as K
 use Rattle.gft_syntax.specs.declared.module.Module.{Module}
 use Rattle.gft_syntax.specs.declared.reference.PlacedName.{PlacedName}
 use Rattle.gft_syntax.specs.declared.reference.Whole.{Whole}
+use Rattle.gft_syntax.specs.declared.term.Term.{Term}
 use Rattle.gft_model.specs.Flats.{IsOf, HasEntry}
 use Rattle.gft_model.specs.JudgementTyping.{Signature, signature_in}
 use Rattle.gft_model.specs.Modules.{is_incomplete, is_interface, sort_of, header_name, declared_names, main_name}
 use Rattle.gft_model.specs.Refusals.{Moment}
-use Rattle.gft_syntax.specs.Parts.{list_name, judgement_names}
+use Rattle.gft_syntax.specs.Parts.{list_name, judgement_names, names_in}
 
 -- the whole names by which terms name a judgement; they name no linearization
 abbrev pub answered : FlatJudgement → List Whole
@@ -27,31 +30,47 @@ needed_categories funs (Some K.Lindef) C = C ∷ []
 needed_categories funs (Some K.Linref) C = C ∷ []
 needed_categories funs s x = []
 
--- among judgements, one rests on another: it names it, needs it, or rests on what does
-pub data RestsOn (es funs : List FlatJudgement) : FlatJudgement → FlatJudgement → Type 0 where
+-- the types of the alternatives of an overload
+abbrev pub alternative_types : Definition → List Term
+alternative_types (D.Term e) = []
+alternative_types (D.Overload ds) = map (λ d. d.of_type) ds
+
+-- the types that a judgement writes for its opers
+abbrev pub declared_types : Judgement → List Term
+declared_types (J.OperType ns t) = t ∷ []
+declared_types (J.OperTyped ns t d) = t ∷ alternative_types d
+declared_types (J.Oper ns xs d) = alternative_types d
+declared_types j = []
+
+-- among judgements, one rests on another: it names it, or the type that is declared for it does, or it needs it, or rests
+-- on what does
+pub data RestsOn (IsDeclared : FlatJudgement → Judgement → Type 0) (es funs : List FlatJudgement) :
+    FlatJudgement → FlatJudgement → Type 0 where
   by_name : {e f : FlatJudgement} {w : _} → Contains es e → Contains es f → Contains (judgement_names e.judgement) w →
-      Contains (answered f) w → RestsOn es funs e f
+      Contains (answered f) w → RestsOn IsDeclared es funs e f
+  by_declaration : {e f : FlatJudgement} {j w : _} → Contains es e → Contains es f → IsDeclared e j →
+      Contains (flat_map names_in (declared_types j)) w → Contains (answered f) w → RestsOn IsDeclared es funs e f
   by_lincat : {e f : FlatJudgement} → Contains es e → Contains es f → sort_of f.judgement ≡ Some K.Lincat →
-      Contains (needed_categories funs (sort_of e.judgement) e.whole.name) f.whole.name → RestsOn es funs e f
-  through : {e f g : _} → RestsOn es funs e f → RestsOn es funs f g → RestsOn es funs e g
+      Contains (needed_categories funs (sort_of e.judgement) e.whole.name) f.whole.name → RestsOn IsDeclared es funs e f
+  through : {e f g : _} → RestsOn IsDeclared es funs e f → RestsOn IsDeclared es funs f g → RestsOn IsDeclared es funs e g
 
 -- those of the judgements that one rests on and that do not rest on it, in the same order
-pub data Before (es funs : List FlatJudgement) (e : FlatJudgement) : List FlatJudgement → List FlatJudgement → Type 0 where
-  none : Before es funs e [] []
-  needed : {f fs ns : _} → RestsOn es funs e f → ¬ (RestsOn es funs f e) → Before es funs e fs ns →
-      Before es funs e (f ∷ fs) (f ∷ ns)
-  not_needed : {f fs ns : _} → ¬ (RestsOn es funs e f × ¬ (RestsOn es funs f e)) → Before es funs e fs ns →
-      Before es funs e (f ∷ fs) ns
+pub data Before (Rests : FlatJudgement → FlatJudgement → Type 0) (e : FlatJudgement) :
+    List FlatJudgement → List FlatJudgement → Type 0 where
+  none : Before Rests e [] []
+  needed : {f fs ns : _} → Rests e f → ¬ (Rests f e) → Before Rests e fs ns → Before Rests e (f ∷ fs) (f ∷ ns)
+  not_needed : {f fs ns : _} → ¬ (Rests e f × ¬ (Rests f e)) → Before Rests e fs ns → Before Rests e (f ∷ fs) ns
 
 -- the turns of judgements where some are typed already: at the turn of each come first, in the same way,
 -- those that it rests on and that do not rest on it
-pub data Turns (es funs list : List FlatJudgement) : List FlatJudgement → List FlatJudgement → List FlatJudgement → Type 0 where
-  no_turn : {typed : _} → Turns es funs list typed [] []
-  typed_already : {typed rest order e : _} → Contains typed e → Turns es funs list typed rest order →
-      Turns es funs list typed (e ∷ rest) order
-  its_turn : {typed rest first later needed e : _} → ¬ (Contains typed e) → Before es funs e list needed →
-      Turns es funs list typed needed first → Turns es funs list (typed ++ first ++ e ∷ []) rest later →
-      Turns es funs list typed (e ∷ rest) (first ++ e ∷ later)
+pub data Turns (Rests : FlatJudgement → FlatJudgement → Type 0) (list : List FlatJudgement) :
+    List FlatJudgement → List FlatJudgement → List FlatJudgement → Type 0 where
+  no_turn : {typed : _} → Turns Rests list typed [] []
+  typed_already : {typed rest order e : _} → Contains typed e → Turns Rests list typed rest order →
+      Turns Rests list typed (e ∷ rest) order
+  its_turn : {typed rest first later needed e : _} → ¬ (Contains typed e) → Before Rests e list needed →
+      Turns Rests list typed needed first → Turns Rests list (typed ++ first ++ e ∷ []) rest later →
+      Turns Rests list typed (e ∷ rest) (first ++ e ∷ later)
 
 -- the name under which a judgement is typed: a parameter type, a list category and an overload once
 abbrev pub typed_name : Judgement → List ℕ → List ℕ

@@ -1,5 +1,5 @@
 -- The files of an import: which are loaded, in which order, and why loading is refused.
-use Rattle.std.specs.Prelude.{◌≡◌, ℕ, ◌-◌, ◌<◌, ◌≤◌, List, [], ◌∷◌, ◌++◌, take, drop, length, ◌==◌, codes, decimal, Contains, Some, None, ◌≢◌, if◌then◌else◌}
+use Rattle.std.specs.Prelude.{◌≡◌, ◌⊎◌, ℕ, ◌-◌, ◌<◌, ◌≤◌, List, [], ◌∷◌, ◌++◌, take, drop, length, ◌==◌, codes, decimal, Contains, Some, None, ◌≢◌, if◌then◌else◌}
 use Rattle.std.specs.FinMap.{get}
 use Rattle.std.specs.List.{list_any}
 use Rattle.gft_io.specs.Outside.{Files}
@@ -48,7 +48,7 @@ pub record Loading : Type 0 where
 abbrev pub nothing_loaded : Loading
 nothing_loaded = record { files = []; modules = [] }
 
--- one more file, with a number of its own
+-- one more file that was read, with a number of its own
 abbrev pub with_file : Loading → List ℕ → Loading
 with_file s file = record s { files = s.files ++ file ∷ [] }
 
@@ -90,12 +90,15 @@ module _ (files : Files) where
   abbrev pub HasBytes : ℕ → List ℕ → List ℕ → Type 0
   HasBytes most file bytes = (get files file ≡ Some bytes) × (length bytes ≤ most)
 
-  -- why a file of at most so many bytes is refused, where broken says what is broken in these
-  pub data Fails (most : ℕ) (Broken : List ℕ → Refusal → Type 0) (file : List ℕ) : Refusal → Type 0 where
-    missing : get files file ≡ None → Fails most Broken file (placeless R.MissingFile (file ∷ []))
+  -- why a file of at most so many bytes is not read
+  pub data IsUnread (most : ℕ) (file : List ℕ) : Refusal → Type 0 where
+    missing : get files file ≡ None → IsUnread most file (placeless R.MissingFile (file ∷ []))
     too_long : {bytes : _} → get files file ≡ Some bytes → most < length bytes →
-        Fails most Broken file (placeless R.FileTooLong (file ∷ []))
-    broken : {bytes r : _} → HasBytes most file bytes → Broken bytes r → Fails most Broken file r
+        IsUnread most file (placeless R.FileTooLong (file ∷ []))
+
+  -- the file is read, and that is broken in its bytes
+  pub data IsBroken (most : ℕ) (Broken : List ℕ → Refusal → Type 0) (file : List ℕ) (r : Refusal) : Type 0 where
+    broken : {bytes : _} → HasBytes most file bytes → Broken bytes r → IsBroken most Broken file r
 
   mutual
     -- a module that is wanted: it is loaded already, there is no room for it, or it is loaded now
@@ -108,7 +111,8 @@ module _ (files : Files) where
 
     -- a module is loaded from a folder, where others wait for it
     pub data Loads (folder : List ℕ) : List (List ℕ) → Loading → List ℕ → Outcome → Type 0 where
-      fails : {waiting M r : _} {s : Loading} → Fails most_bytes (BreaksSource (length s.files) M) (file_in folder M) r →
+      unread : {waiting s M r : _} → IsUnread most_bytes (file_in folder M) r → Loads folder waiting s M (refused r s)
+      is_broken : {waiting M r : _} {s : Loading} → IsBroken most_bytes (BreaksSource (length s.files) M) (file_in folder M) r →
           Loads folder waiting s M (refused r (with_file s (file_in folder M)))
       needs_refused : {waiting bytes M r t : _} {s : Loading} {m : Module} → HasBytes most_bytes (file_in folder M) bytes →
           IsSource (length s.files) bytes m → (header_name m.header).name ≡ M →
@@ -137,7 +141,8 @@ module _ (files : Files) where
     source_loaded : {s t file rest o : _} → EndsIn source_ending file → Gets (folder_of file) [] s (base_of file) (loaded t) →
         LoadsNamed t rest o → LoadsNamed s (file ∷ rest) o
     portable_refused : {s file rest r : _} → EndsIn portable_ending file →
-        Fails most_portable_bytes (BreaksPortable file) file r → LoadsNamed s (file ∷ rest) (refused r s)
+        IsUnread most_portable_bytes file r ⊎ IsBroken most_portable_bytes (BreaksPortable file) file r →
+        LoadsNamed s (file ∷ rest) (refused r s)
     portable_read : {s file bytes g rest o : _} → EndsIn portable_ending file → HasBytes most_portable_bytes file bytes →
         PortableFile.Reads bytes g → LoadsNamed s rest o → LoadsNamed s (file ∷ rest) o
 

@@ -1,5 +1,5 @@
 -- Faults of names: what means nothing, what means two things, and variables of patterns.
-use Rattle.std.specs.Prelude.{◌≡◌, ◌↔◌, ℕ, List, [], ◌∷◌, ◌++◌, flat_map, Bool, true, false, not, ◌||◌, codes, Contains, Option, Some, None, ◌≢◌, option_to_list, unwrap_or, if◌then◌else◌}
+use Rattle.std.specs.Prelude.{◌≡◌, ◌↔◌, ℕ, List, [], ◌∷◌, ◌++◌, map, flat_map, Bool, true, false, not, ◌||◌, codes, Contains, Option, Some, None, ◌≢◌, option_to_list, unwrap_or, if◌then◌else◌}
 use Rattle.gft_core.specs.declared.place.Place.{Place}
 use Rattle.gft_rules.specs.declared.rule.Rule.{Rule}
 use Rattle.gft_rules.specs.declared.rule.Rule.TheVariants as R
@@ -15,7 +15,7 @@ use Rattle.gft_syntax.specs.declared.term.Sort.{Sort}
 use Rattle.gft_syntax.specs.declared.term.Sort.TheVariants as Sort-V
 use Rattle.gft_syntax.specs.declared.term.Term.{Term, out-Term}
 use Rattle.gft_syntax.specs.declared.term.Term.TheOpen as T
-use Rattle.gft_syntax.specs.Parts.{list_name, Part as TermPart, parts, pattern_parts, patterns_in, judgement_parts}
+use Rattle.gft_syntax.specs.Parts.{list_name, bound_names, Part as TermPart, parts, pattern_parts, patterns_in, judgement_parts}
 use Rattle.gft_model.specs.Flats.{IsConstructor, IsOf}
 use Rattle.gft_model.specs.HeaderFaults.{IsBuiltIn, Clash}
 use Rattle.gft_model.specs.Modules.{is_abstract, placed_names, sort_of, opened_names, Writes, Offers, Sees, Declared, header_name, header_mentions, judgements_of, opened_of, names_of}
@@ -45,6 +45,11 @@ pub data IsName (e : Term) : Type 0 where
   of_ints : {f a place p n q : _} → out-Term e ≡ T.App f a place → out-Term f ≡ T.Sort Sort-V.Ints p → out-Term a ≡ T.Num n q →
       IsName e
 
+-- the terms of a judgement, each with the variables around it: those of an oper, and the alternatives of one, see its arguments
+abbrev pub scoped_parts : Judgement → List (TermPart Term)
+scoped_parts (J.Oper ns bs d) = map (λ (p : TermPart Term). record p { names = bound_names bs }) (judgement_parts (J.Oper ns bs d))
+scoped_parts j = judgement_parts j
+
 module _ (mods : List Module) (m : Module) where
   -- the name of the module
   abbrev own_name : List ℕ
@@ -66,7 +71,7 @@ module _ (mods : List Module) (m : Module) where
   module _ (is_constructor : List ℕ → Bool) where
     -- a term of an own judgement, with the variables around it, and whether a type must stand there
     pub data Within : Locals → Bool → Term → Type 0 where
-      in_judgement : {j p : _} → Contains (judgements_of m) j → Contains (judgement_parts j) p →
+      in_judgement : {j p : _} → Contains (judgements_of m) j → Contains (scoped_parts j) p →
           Within p.names p.is_type p.part
       in_term : {xs b e p : _} → Within xs b e → ¬ (IsName e) → Contains (parts (out-Term e)) p →
           Within (names_of (flat_map (bound_in is_constructor xs) (option_to_list p.pattern)) ++ p.names ++ xs) p.is_type p.part

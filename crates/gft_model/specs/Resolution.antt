@@ -118,11 +118,11 @@ resolved_contexts n xs [] = []
 resolved_contexts n xs (c ∷ cs) =
     record { binds = c.binds; of_type = resolved n c.of_type xs } ∷ resolved_contexts n (bound_names c.binds ++ xs) cs
 
--- a definition with its names replaced; alternatives of an overload see no arguments
+-- a definition with its names replaced, under the arguments before it
 abbrev pub resolved_definition : Names → Locals → Definition → Definition
 resolved_definition n xs (D.Term e) = D.Term (resolved n e xs)
 resolved_definition n xs (D.Overload ds) =
-    D.Overload (map (λ d. record { names = d.names; of_type = resolved n d.of_type []; value = resolved n d.value [] }) ds)
+    D.Overload (map (λ d. record { names = d.names; of_type = resolved n d.of_type xs; value = resolved n d.value xs }) ds)
 
 -- a judgement with its names replaced
 abbrev pub resolved_judgement : Names → Judgement → Judgement

@@ -27,9 +27,9 @@ use Rattle.gft_syntax.specs.declared.value.Param.{Param}
 use Rattle.gft_syntax.specs.Parts.{bind_place, is_value, local_names, pattern_place}
 use Rattle.gft_syntax.specs.Terms.{Layer, place_of}
 use Rattle.gft_model.specs.ConcreteTypes.{field_of, is_finite, count_of, values_of, record_in, table_in, function_in, IsSubtype}
-use Rattle.gft_model.specs.ConcreteTyping.{IsType, IsParameter, IsDomain, Fits, Checks, FindsAll, Suits, Stands, an_oper, an_overload, passes, is_covered, most_values, patterns}
+use Rattle.gft_model.specs.ConcreteTyping.{IsType, IsParameter, IsDomain, Fits, Checks, FindsAll, Suits, Stands, a_bare_parameter, an_oper, an_overload, passes, is_covered, most_values, patterns}
 use Rattle.gft_model.specs.Modules.{placed_names}
-use Rattle.gft_model.specs.Items.{Item, items_in, parameter_type, bare_parameter}
+use Rattle.gft_model.specs.Items.{Item, items_in, parameter_type}
 use Rattle.gft_model.specs.JudgementTyping.{items, IsSort}
 use Rattle.gft_model.specs.PatternTyping.{Scope, PatternFits, pattern_form}
 use Rattle.gft_model.specs.Refusals.{Moment, refusal}
@@ -69,6 +69,10 @@ module _ (flat : Flat) where
         Checks (items flat) Γ e S t → BreaksSort Γ e S R.Unknown (w.name ∷ [])
     form_of_no_type : {t : _} → Checks (items flat) Γ e S t → ((w : Reference) (p : Place) → ¬ (form e ≡ T.Var w p)) →
         ((A : CType) → ¬ (IsType (items flat) e A)) → BreaksSort Γ e S R.NoType []
+    undefined_parameter : {w : Whole} {p : _} → form e ≡ T.Var (WholeName w) p → Stands (items flat) w a_bare_parameter →
+        BreaksSort Γ e S R.Unknown (w.name ∷ [])
+    too_many_numbers : {f a n p q s : _} → form e ≡ T.App f a p → form f ≡ T.Sort Sort-V.Ints s → form a ≡ T.Num n q →
+        most_values < n + 1 → BreaksSort Γ e S R.ParamTooLarge (type_text (number_type n) ∷ [])
     too_many_values : {A w p : _} → form e ≡ T.Var (WholeName w) p → IsParameter (items flat) w A → most_values < count_of A →
         BreaksSort Γ e S R.ParamTooLarge (type_text A ∷ [])
 
@@ -100,8 +104,6 @@ module _ (flat : Flat) where
           BreaksTerm (0 ∷ []) R.NotTable (type_text F ∷ [])
       table_is_no_table : {cs p F : _} → form e ≡ T.TableOf None cs p → term_mode m ≡ given F → table_in (out-CType F) ≡ None →
           BreaksTerm (0 ∷ []) R.NotTable (type_text F ∷ [])
-      undefined_parameter : {w : Whole} {p : _} → form e ≡ T.Var (WholeName w) p → Contains (items flat) (bare_parameter w) →
-          BreaksTerm [] R.Unknown (w.name ∷ [])
       no_first_case : {b p : _} → form e ≡ T.CaseOf b [] p → m ≡ found → BreaksTerm [] R.NoType []
       no_first_branch : {t p : _} → form e ≡ T.TableOf (Some t) [] p → value_mode (term_mode m) ≡ found →
           BreaksTerm [] R.NoType []
@@ -133,8 +135,6 @@ module _ (flat : Flat) where
       over_no_finite : {A : _} → IsOver A → is_finite A ≡ false →
           (A ≡ str_type → (r ≢ selected) × ((b : Term) (cs : List (Case Term)) (p : Place) → ¬ (form e ≡ T.CaseOf b cs p))) →
           BreaksTerm [] R.NotFinite (type_text A ∷ [])
-      too_many_numbers : {f a n p q s : _} → form e ≡ T.App f a p → form f ≡ T.Sort Sort-V.Ints s → form a ≡ T.Num n q →
-          most_values < n + 1 → BreaksTerm [] R.ParamTooLarge (type_text (number_type n) ∷ [])
       over_too_many : {A : _} → IsOver A → is_finite A ≡ true → most_values < count_of A →
           BreaksTerm [] R.ParamTooLarge (type_text A ∷ [])
       value_left_out : {A v : _} → IsOver A → IsDomain A → left_out (form e) (values_of A) ≡ Some v →

@@ -1,6 +1,6 @@
 -- Where the terms and patterns of a judgement stand when it is typed: in which scope, and with which type
 -- given, or found.
-use Rattle.std.specs.Prelude.{◌≡◌, ◌⊎◌, ℕ, suc, List, [], ◌∷◌, ◌++◌, map, flat_map, Contains, Option, Some, None, slice_get, option_map}
+use Rattle.std.specs.Prelude.{◌≡◌, ◌⊎◌, ℕ, suc, List, [], ◌∷◌, ◌++◌, map, flat_map, Option, Some, None, slice_get, option_map}
 use Rattle.std.specs.List.{enumerate_from, filter_map}
 use Rattle.std.specs.Option.{option_map_or, unwrap_or}
 use Rattle.gft_syntax.specs.declared.bind.Bind.{Bind}
@@ -27,7 +27,7 @@ use Rattle.gft_syntax.specs.declared.term.Term.TheOpen as T
 use Rattle.gft_syntax.specs.Terms.{Layer}
 use Rattle.gft_model.specs.ConcreteTypes.{field_of, record_in, table_in, function_in}
 use Rattle.gft_model.specs.ConcreteTyping.{IsType, IsParameter, Finds, Defines, Spine, Stands, a_constructor, an_overload, nothing}
-use Rattle.gft_model.specs.Items.{with_arguments, bare_parameter}
+use Rattle.gft_model.specs.Items.{with_arguments}
 use Rattle.gft_model.specs.JudgementTyping.{items, HasGiven, IsSort}
 use Rattle.gft_model.specs.PatternTyping.{Scope, PatternFits, Constructs, pattern_form}
 use Rattle.gft_model.specs.Refusals.{Moment}
@@ -221,8 +221,7 @@ module _ (flat : Flat) where
 
   -- an overloaded oper; one without alternatives has no number, and so no item is of its name
   abbrev pub IsOverload : Whole → Type 0
-  IsOverload w =
-      Stands (items flat) w an_overload ⊎ (Stands (items flat) w nothing × ¬ (Contains (items flat) (bare_parameter w)))
+  IsOverload w = Stands (items flat) w an_overload ⊎ Stands (items flat) w nothing
 
   -- the application's head is that overloaded oper, with its arguments
   pub data HasOverload (e : Term) (w : Whole) (es : List Term) : Type 0 where

@@ -15,7 +15,7 @@ use Rattle.gft_syntax.specs.declared.term.Sort.TheVariants as Sort-V
 use Rattle.gft_syntax.specs.declared.term.Term.{Term}
 use Rattle.gft_syntax.specs.declared.term.Term.TheOpen as Term-F
 use Rattle.gft_model.specs.ConcreteTypes.{is_finite, count_of}
-use Rattle.gft_model.specs.Items.{Item, parameter_type, oper, alternative}
+use Rattle.gft_model.specs.Items.{Item, parameter_type, bare_parameter, oper, alternative}
 use Rattle.gft_model.specs.Matching.{same_whole, tuple_fields}
 use Rattle.gft_model.specs.TypeForms.{form, str_type, number_type, record_type, table_type, functions, sort_type, sort_param}
 
@@ -36,10 +36,11 @@ abbrev pub for_each : {A : Type 0} → List Bind → A → List A
 for_each [] a = a ∷ []
 for_each (x ∷ xs) a = map (λ y. a) (x ∷ xs)
 
--- what a whole name is in a grammar: a parameter type, one of its constructors, an oper with its number,
+-- what a whole name is in a grammar: a parameter type, one without constructors, a constructor, an oper with its number,
 -- its type and its definition, an overload, or nothing
 pub data Standing : Type 0 where
   a_parameter : List Constructor → Standing
+  a_bare_parameter : Standing
   a_constructor : Whole → List Constructor → Standing
   an_oper : ℕ → Option Term → Option Term → Standing
   an_overload : Standing
@@ -55,6 +56,7 @@ standing_from k [] w = nothing
 standing_from k (parameter_type v cs ∷ is) w =
     if same_whole w v then a_parameter cs
     else if is_constructor w v cs then a_constructor v cs else standing_from (suc k) is w
+standing_from k (bare_parameter v ∷ is) w = if same_whole w v then a_bare_parameter else standing_from (suc k) is w
 standing_from k (oper v T d ∷ is) w = if same_whole w v then an_oper k T d else standing_from (suc k) is w
 standing_from k (alternative v T xs D d ∷ is) w = if same_whole w v then an_overload else standing_from (suc k) is w
 standing_from k (i ∷ is) w = standing_from (suc k) is w
@@ -117,3 +119,15 @@ module _ (items : List Item) where
           AreFactors e (T ∷ [])
       next_factor : {e a b p Ts T : _} → form e ≡ Term-F.Pair a b p → AreFactors a Ts → IsType b T → IsData T →
           AreFactors e (Ts ++ T ∷ [])
+
+  -- a name that means a parameter type: its own, also without constructors, or that of an oper
+  pub data MeansParameter (e : Term) (w : Whole) : Type 0 where
+    its_name : {T : _} → IsParameter w T → MeansParameter e w
+    its_bare_name : Stands w a_bare_parameter → MeansParameter e w
+    of_oper : {T c ds : _} → IsType e T → out-CType T ≡ CType-F.Param c ds → MeansParameter e w
+
+  -- a form that is a type wherever it stands; Ints before any number is one
+  pub data IsTypeForm (e : Term) : Type 0 where
+    a_type : {T : _} → IsType e T → IsTypeForm e
+    some_numbers : {f a n p q r : _} → form e ≡ Term-F.App f a p → form f ≡ Term-F.Sort Sort-V.Ints q →
+        form a ≡ Term-F.Num n r → IsTypeForm e
