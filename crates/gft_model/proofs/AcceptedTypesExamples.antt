@@ -99,9 +99,9 @@ module _ (flat : Flat) where
         }
     of (suc j) i = cc
 
-  parts_of : {n : Node} {m : Mode} {e : Term} {d : Layer} → n ≡ a_term e → m ≡ as_type sort_type → form e ≡ d →
-      sites_of n m ≡ term_sites d (given sort_type)
-  parts_of h i f = (λ j. sites_of (h j) (i j)) ∙ ap (λ d. term_sites d (given sort_type)) f
+  parts_of : {n : Node} {m : Mode} {e : Term} {d : Layer} (r : Role) → n ≡ a_term e → m ≡ as_type sort_type → form e ≡ d →
+      sites_of n m r ≡ term_sites d (given sort_type) r
+  parts_of r h i f = (λ j. sites_of (h j) (i j) r) ∙ ap (λ d. term_sites d (given sort_type) r) f
 
   abbrev sites : List Site
   sites = type_site data_wanted (roll-Term type_layer) ∷ []
@@ -110,8 +110,8 @@ module _ (flat : Flat) where
   stands (at_site k g l) = alone k refl g l (inl (form-roll type_layer))
   stands (within_it {n = n} {m = m} {l = o} {r = r} k {s} d g l) = of (stands d) (stands d).layer where
     of : (i : IsSite n m r) → (form i.term ≡ type_layer) ⊎ (form i.term ≡ str_layer) → IsSite s.node o s.role
-    of i (inl f) = alone k (parts_of i.node i.mode f) g l (inr (form-roll str_layer))
-    of i (inr f) = let none = subst (λ ss. slice_get ss k ≡ Some s) (parts_of i.node i.mode f) g in cc
+    of i (inl f) = alone k (parts_of r i.node i.mode f) g l (inr (form-roll str_layer))
+    of i (inr f) = let none = subst (λ ss. slice_get ss k ≡ Some s) (parts_of r i.node i.mode f) g in cc
 
   -- the form of the term of a site
   form_is : {Γ : Scope} {at : Moment} {e : Term} {d : Layer} {m : Mode} {r : Role} → StandsIn flat sites at Γ (a_term e) m r →
@@ -211,6 +211,7 @@ module _ (flat : Flat) where
       let type = type_there h in
       let same = type-once (items flat) t type.1 refl in
       let none = ap (λ A. function_in (out-CType A)) same ∙ type.2 in cc
+  no_term h (TypeFaults.parameter_takes_function f t g i) = let role = (stands h).role in cc
   no_term h (TypeFaults.argument_not_finite f t g) = let role = (stands h).role in cc
   no_term h (TypeFaults.over_no_finite o f g) = over_none h o
   no_term h (TypeFaults.over_too_many o f l) = over_none h o

@@ -24,7 +24,7 @@ use Rattle.gft_syntax.specs.declared.value.Value.TheOpen.{Value-F}
 use Rattle.gft_syntax.specs.declared.value.Value.TheFolds.{fold-Value, fold-roll-Value, map-Value}
 use Rattle.gft_model.specs.ConcreteTypes.{Leaf, cells_of_type, leaves_step}
 use Rattle.gft_model.specs.Matching.{Subject, Match, match_of, match_step}
-use Rattle.gft_model.specs.Outcomes.{Results, Environment, results_of, step}
+use Rattle.gft_model.specs.Outcomes.{TermResults, Environment, results_of, step}
 use Rattle.gft_core.specs.declared.symbol.Sym.{Sym}
 use Rattle.gft_syntax.specs.declared.pattern.Pattern.TheViews.{out-roll-Pattern}
 use Rattle.gft_model.specs.PatternTyping.{pattern_form, plain_pattern}
@@ -41,9 +41,9 @@ pub pattern_form-roll : (d : Pattern-F Pattern) → pattern_form (roll-Pattern d
 unfolding pattern_form
 pattern_form-roll d = ap plain_pattern (out-roll-Pattern d)
 
-pub results-roll : (opers : ℕ → Results) (d : LinTerm-F LinTerm) (env : Environment) →
-    results_of opers (roll-LinTerm d) env ≡ step opers (map-LinTerm LinTerm (Environment → Results) (results_of opers) d) env
-results-roll opers d env = ap (λ (f : Environment → Results). f env) (fold-roll-LinTerm (Environment → Results) (step opers) d)
+pub results-roll : (opers : ℕ → TermResults) (d : LinTerm-F LinTerm) (env : Environment) →
+    results_of opers (roll-LinTerm d) env ≡ step opers (map-LinTerm LinTerm (Environment → TermResults) (results_of opers) d) env
+results-roll opers d env = ap (λ (f : Environment → TermResults). f env) (fold-roll-LinTerm (Environment → TermResults) (step opers) d)
 
 pub match-roll : (d : Pattern-F Pattern) (s : Subject) →
     match_of (roll-Pattern d) s ≡ match_step (map-Pattern Pattern (Subject → Match) match_of d) s

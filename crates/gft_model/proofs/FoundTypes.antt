@@ -712,13 +712,13 @@ module _ (items : List Item) where
     defines-once : {Γ Δ Θ Λ : Scope} {ls ks : List (Local Term)} {ds es : List (List (List ℕ) × LinTerm)} → Defines items Γ ls Θ ds → Defines items Δ ks Λ es → Γ ≡ Δ → ls ≡ ks → (Θ ≡ Λ) × (ds ≡ es)
     defines-once no_local no_local g e = (g, refl)
     defines-once no_local d g e = (cc, cc)
-    defines-once (local {Γ = Γ} {xs = xs} {T = T} a0 a1 a2) (local {Γ = Δ} {xs = ys} {T = U} b0 b1 b2) g e =
+    defines-once (local {Γ = Γ} {xs = xs} {T = T} a0 a2) (local {Γ = Δ} {xs = ys} {T = U} b0 b2) g e =
         let l : xs ≡ ys = cc in let i = find-once a0 b0 g (cc) in
         let n : with_names xs T Γ ≡ with_names ys U Δ = same-names l i.0 g in
         let j = defines-once a2 b2 n (cc) in (j.0, cc)
-    defines-once (local a0 a1 a2) d g e = (cc, cc)
-    defines-once (typed_local {Γ = Γ} {xs = xs} {T = T} a0 a1 a2 a3) (typed_local {Γ = Δ} {xs = ys} {T = U} b0 b1 b2 b3) g e =
+    defines-once (local a0 a2) d g e = (cc, cc)
+    defines-once (typed_local {Γ = Γ} {xs = xs} {T = T} a0 a2 a3) (typed_local {Γ = Δ} {xs = ys} {T = U} b0 b2 b3) g e =
         let l : xs ≡ ys = cc in let k = type-once items a0 b0 (cc) in let i = check-once a2 b2 g (cc) k in
         let n : with_names xs T Γ ≡ with_names ys U Δ = same-names l k g in
         let j = defines-once a3 b3 n (cc) in (j.0, cc)
-    defines-once (typed_local a0 a1 a2 a3) d g e = (cc, cc)
+    defines-once (typed_local a0 a2 a3) d g e = (cc, cc)

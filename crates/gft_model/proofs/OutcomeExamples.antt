@@ -1,5 +1,5 @@
 -- Worked examples of outcomes, each computed.
-use Rattle.std.proofs.Common.{◌≡◌, ℕ, List, [], ◌∷◌, Some}
+use Rattle.std.proofs.Common.{◌≡◌, ◌∙◌, ℕ, List, [], ◌∷◌, Some}
 use Rattle.std.specs.Prelude.{codes}
 use Rattle.std.specs.Str.{chars}
 use lib.Utf8
@@ -14,14 +14,16 @@ use Rattle.gft_syntax.specs.declared.value.Value.TheViews.{out-roll-Value}
 use Rattle.gft_syntax.specs.declared.value.Param.TheViews.{out-roll-Param}
 use Rattle.gft_syntax.specs.declared.value.Value.TheFolds.{fold-roll-Value}
 use Rattle.gft_model.specs.ValueForms.{string_value, record_value}
-use Rattle.gft_model.specs.Outcomes.{Results, opers_of, outcomes_of, no_environment, none, Outcome, gives, stuck_at}
+use Rattle.gft_model.specs.Outcomes.{TermResults, Operand, Environment, opers_of, results_of, outcomes_of, no_environment, bind_all, none, also, one, plain, function, raised, followed_by, Outcome, gives, stuck_at}
 use Rattle.gft_rules.specs.declared.rule.Rule.TheVariants as R
 use Rattle.gft_syntax.specs.declared.ctype.CType.{roll-CType}
 use Rattle.gft_syntax.specs.declared.ctype.CType.TheOpen as C
 use Rattle.gft_syntax.specs.declared.linear.Branches.TheVariants.{Matched}
 use Rattle.gft_syntax.specs.declared.pattern.Pattern.{Pattern, roll-Pattern}
 use Rattle.gft_syntax.specs.declared.pattern.Pattern.TheOpen as P
-use Rattle.gft_model.specs.Outcomes.{Environment}
+use Rattle.std.specs.Option.{option_map_or}
+use Rattle.gft_model.specs.ConcreteTypes.{field_of}
+use Rattle.gft_model.specs.Matching.{words_value}
 use Rattle.gft_model.specs.Values.{cut_value}
 use Rattle.gft_model.proofs.Computing.{results-roll, match-roll, cut-roll}
 
@@ -139,7 +141,7 @@ plural =
     (roll-Pattern (P.Seq (roll-Pattern (P.Name (Written (codes "x")) nowhere)) (text_pattern (codes "y")) nowhere), made (L.Glue (made (L.Var (codes "x"))) (word (codes "ies")) nowhere))
     ∷ (any, made (L.Glue (made (L.Var (codes "w"))) (word (codes "s")) nowhere)) ∷ [])))
 
-abbrev opers : ℕ → Results
+abbrev opers : ℕ → TermResults
 opers = opers_of (Some (record { term = plural; ctype = roll-CType C.Str }) ∷ [])
 
 -- pl "fly" and pl "cat"
@@ -150,3 +152,47 @@ plural_of_fly = simp (results-roll, match-roll, out-roll-Value)
 pub plural_of_cat : outcomes_of opers (made (L.App (made (L.Oper 0)) (word (codes "cat")))) no_environment ≡ string (Tok (codes "cats") ∷ []) ∷ []
 unfolding chars lib.Utf8.encode
 plural_of_cat = simp (results-roll, match-roll, out-roll-Value)
+
+-- \f,x -> f (f x)
+abbrev variable : List ℕ → LinTerm
+variable x = made (L.Var x)
+
+abbrev lambda : List ℕ → LinTerm → LinTerm
+lambda x t = made (L.Lambda (Some x) t)
+
+abbrev apply : LinTerm → LinTerm → LinTerm
+apply f t = made (L.App f t)
+
+abbrev twice : LinTerm
+twice = lambda (codes "f") (lambda (codes "x") (apply (variable (codes "f")) (apply (variable (codes "f")) (variable (codes "x")))))
+
+-- a lambda as one thing, and what it means: both of what it is given and !
+pub choice : LinTerm
+choice = lambda (codes "x") (either (variable (codes "x")) (word (codes "!")))
+
+abbrev with_mark : Operand → TermResults
+with_mark m = also (raised m) (also (plain (words_value (codes "!" ∷ []))) none)
+
+choice_body : (opers : ℕ → TermResults) (env : Environment) → results_of opers (either (variable (codes "x")) (word (codes "!"))) env
+    ≡ followed_by (option_map_or one (field_of (codes "x") env.variables) none) (also (plain (words_value (codes "!" ∷ []))) none)
+choice_body opers env = simp results-roll
+
+choice_means : (opers : ℕ → TermResults) (env : Environment) → results_of opers choice env ≡ one (function with_mark)
+unfolding choice
+choice_means opers env =
+    results-roll opers (L.Lambda (Some (codes "x")) (either (variable (codes "x")) (word (codes "!")))) env
+    ∙ (λ i. one (function (λ m. choice_body opers (bind_all ((codes "x", raised m) ∷ []) env) i)))
+
+-- oper twice = \f,x -> f (f x) ; choice = \x -> x | "!": an oper is handed on
+abbrev higher : ℕ → TermResults
+higher = opers_of (Some (record { term = twice; ctype = roll-CType C.Str }) ∷ Some (record { term = choice; ctype = roll-CType C.Str }) ∷ [])
+
+-- twice choice "a": for each outcome of the inner call, those of the outer one
+pub handed_on : outcomes_of higher (apply (apply (made (L.Oper 0)) (made (L.Oper 1))) (word a)) no_environment
+    ≡ string (Tok a ∷ []) ∷ string (Tok (codes "!") ∷ []) ∷ string (Tok (codes "!") ∷ []) ∷ string (Tok (codes "!") ∷ []) ∷ []
+handed_on = simp (choice_means, results-roll)
+
+-- let y = "a" | "b" in let f = \x -> x ++ y in f "c": a local may be a function, and keeps what its variables were
+pub local_function : outcomes_of (λ k. none) (made (L.Let (codes "y" ∷ []) (either (word a) (word b)) (made (L.Let (codes "f" ∷ []) (lambda (codes "x") (made (L.Concat (variable (codes "x")) (variable (codes "y"))))) (apply (variable (codes "f")) (word (codes "c"))))))) no_environment
+    ≡ string (Tok (codes "c") ∷ Tok a ∷ []) ∷ string (Tok (codes "c") ∷ Tok b ∷ []) ∷ []
+local_function = simp (results-roll, out-roll-Value)

@@ -12,7 +12,7 @@ use Rattle.gft_syntax.specs.declared.reference.Whole.{Whole}
 use Rattle.gft_syntax.specs.declared.token.SourceToken.{SourceToken}
 use Rattle.gft_syntax.specs.declared.value.Param.{Param}
 use Rattle.gft_model.specs.ConcreteTypes.{upto, choices, values_of, count_of, product_of, sum_of}
-use Rattle.gft_model.specs.Outcomes.{Results, none, also, stuck, plain, function, Environment, gives, stuck_at, outcomes, outcomes_of, followed_by, results_of}
+use Rattle.gft_model.specs.Outcomes.{Results, TermResults, none, also, stuck, plain, function, Environment, gives, stuck_at, outcomes, outcomes_of, followed_by, results_of}
 use Rattle.gft_model.specs.Source.{Tokens}
 use Rattle.gft_model.specs.ValueForms.{con_param}
 use Rattle.gft_model.proofs.Computing.{results-roll}
@@ -21,25 +21,25 @@ pub one_list_of_tokens : (file : ℕ) (bytes : List ℕ) (ts us : List SourceTok
 one_list_of_tokens file bytes ts us h k = let e : Some ts ≡ Some us = sym h.spelled ∙ k.spelled in cc
 
 -- outcomes one after the other
-outcomes-followed : (r s : Results) → outcomes (followed_by r s) ≡ outcomes r ++ outcomes s
+outcomes-followed : {A : Type 0} (r s : Results A) → outcomes (followed_by r s) ≡ outcomes r ++ outcomes s
 outcomes-followed none s = refl
 outcomes-followed (also (plain v) r) s = ap (λ os. gives v ∷ os) (outcomes-followed r s)
 outcomes-followed (also (function f) r) s = outcomes-followed r s
 outcomes-followed (stuck k r) s = ap (λ os. stuck_at k ∷ os) (outcomes-followed r s)
 
-followed-none : (r : Results) → followed_by r none ≡ r
+followed-none : {A : Type 0} (r : Results A) → followed_by r none ≡ r
 followed-none none = refl
 followed-none (also m r) = ap (also m) (followed-none r)
 followed-none (stuck k r) = ap (stuck k) (followed-none r)
 
-pub two_alternatives : (opers : ℕ → Results) (a b : LinTerm) (env : Environment) →
+pub two_alternatives : (opers : ℕ → TermResults) (a b : LinTerm) (env : Environment) →
     outcomes_of opers (roll-LinTerm (Lin-F.Variants (a ∷ b ∷ []))) env ≡ outcomes_of opers a env ++ outcomes_of opers b env
 two_alternatives opers a b env =
     ap outcomes (results-roll opers (Lin-F.Variants (a ∷ b ∷ [])) env)
     ∙ ap outcomes (ap (followed_by (results_of opers a env)) (followed-none (results_of opers b env)))
     ∙ outcomes-followed (results_of opers a env) (results_of opers b env)
 
-pub no_alternative : (opers : ℕ → Results) (env : Environment) → outcomes_of opers (roll-LinTerm (Lin-F.Variants [])) env ≡ []
+pub no_alternative : (opers : ℕ → TermResults) (env : Environment) → outcomes_of opers (roll-LinTerm (Lin-F.Variants [])) env ≡ []
 no_alternative opers env = ap outcomes (results-roll opers (Lin-F.Variants []) env)
 
 -- how many there are of what a definition lists

@@ -1,11 +1,11 @@
 -- A worked example of a fault of types: a table over N = One | Two that leaves out Two, at 3:23 of ExhEng.gf.
 use Rattle.std.proofs.Common.{zero, suc, ◌≡◌, ap, refl, ℕ, List, [], ◌∷◌, None, Some, subst, inl, inr, arith}
-use Rattle.std.specs.Prelude.{codes}
+use Rattle.std.specs.Prelude.{codes, slice_get, Bool, true, false}
 use Rattle.gft_core.specs.declared.place.Place.{Place}
 use Rattle.gft_rules.specs.declared.rule.Rule.TheVariants as R
 use Rattle.gft_syntax.specs.declared.ctype.CType.{CType, out-CType, roll-CType}
 use Rattle.gft_syntax.specs.declared.ctype.CType.TheOpen as C
-use Rattle.gft_syntax.specs.declared.ctype.CType.TheFolds.{fold-roll-CType}
+use Rattle.gft_syntax.specs.declared.ctype.CType.TheFolds.{fold-roll-CType, para-roll-CType}
 use Rattle.gft_syntax.specs.declared.ctype.CType.TheViews.{out-roll-CType}
 use Rattle.gft_syntax.specs.declared.flat.Flat.{Flat}
 use Rattle.gft_syntax.specs.declared.judgement.Alternative.{Alternative}
@@ -29,14 +29,15 @@ use Rattle.gft_syntax.specs.declared.value.Param.{Param}
 use Rattle.gft_syntax.specs.declared.value.Param.TheViews.{out-roll-Param}
 use Rattle.gft_syntax.specs.declared.value.Param.TheFolds.{fold-roll-Param}
 use Rattle.gft_model.specs.ConcreteTypes.{count_of, values_of, table_in}
-use Rattle.gft_model.specs.ConcreteTyping.{IsData, Checks, Suits, suits_by, takes_none, found, overloaded as of_overload, at_head, none_found, same, passes, type_of_types, IsType, IsParameter, IsDomain, text_type, table_over, parameters_named, parameter_of, no_constructor, constructor, no_argument}
+use Rattle.gft_model.specs.ConcreteTyping.{IsData, Checks, Suits, suits_by, takes_none, found, overloaded as of_overload, at_head, none_found, same, passes, type_of_types, IsType, IsParameter, IsDomain, text_type, table_over, parameters_named, parameter_of, no_constructor, constructor, no_argument, oper_named, function_from}
 use Rattle.gft_model.specs.Items.{items_of}
 use Rattle.gft_model.specs.JudgementTyping.{IsSort}
 use Rattle.gft_model.specs.Refusals.{refusal}
 use Rattle.gft_model.specs.TypeFaults
 use Rattle.gft_model.specs.TypeTexts.{Written, param_step, param_text}
 use Rattle.gft_syntax.specs.Terms.{place_of, layer_place}
-use Rattle.gft_model.specs.TypeForms.{form, str_type, sort_type, table_type, made}
+use Rattle.gft_model.specs.TypeForms.{form, str_type, sort_type, table_type, function_type, made}
+use Rattle.gft_model.specs.WrittenTypes.{takes_data, takes_data_step}
 use Rattle.gft_model.specs.TypingSites
 use Rattle.gft_model.specs.ValueForms.{con_param}
 use Rattle.gft_model.proofs.Computing.{form-roll, match-roll}
@@ -192,6 +193,52 @@ pub overload_names_no_type : TypeFaults.BreaksTypes overloaded [] (whole (codes 
 overload_names_no_type =
     subst (λ p. TypeFaults.BreaksTypes overloaded [] (whole (codes "x")) oper_x (1 ∷ []) (refusal R.Unknown p (codes "f" ∷ [])))
     (ap layer_place (out-roll-Term _)) found_no_type
+
+-- oper F : Type = (Str -> Str) -> Str ; f : F -> Str: the name F hides that a parameter takes functions
+abbrev arrow : Term → Term → Term
+arrow a b = roll-Term (T.Arrow [] a b (here 2 19))
+
+abbrev hiding_name : Term
+hiding_name = roll-Term (T.Var (WholeName (whole (codes "F"))) (here 3 13))
+
+abbrev oper_f : Judgement
+oper_f = J.OperType (named (codes "f") ∷ []) (arrow hiding_name str_term)
+
+abbrev hiding : Flat
+hiding = record exh {
+  params = [];
+  opers = record {
+    whole = whole (codes "F");
+    judgement = J.OperTyped (named (codes "F") ∷ []) type_term_alone (D.Term (arrow (arrow str_term str_term) str_term));
+  } ∷ record { whole = whole (codes "f"); judgement = oper_f } ∷ [];
+}
+
+abbrev from_str : CType
+from_str = function_type str_type str_type
+
+str_takes_data : takes_data str_type ≡ true
+str_takes_data = para-roll-CType Bool takes_data_step C.Str
+
+from_str_takes_data : takes_data from_str ≡ true
+from_str_takes_data = simp (para-roll-CType, out-roll-CType)
+
+hidden_type : IsType (items_of hiding) hiding_name (function_type from_str str_type)
+hidden_type = oper_named 0 (form-roll _) refl (type_of_types (form-roll _)) (inl refl)
+    (function_from (form-roll _) (function_from (form-roll _) (text_type (form-roll _)) str_takes_data (text_type (form-roll _)))
+    from_str_takes_data (text_type (form-roll _)))
+
+takes_function : takes_data (function_type from_str str_type) ≡ false
+takes_function = simp (para-roll-CType, out-roll-CType)
+
+stands_as_parameter : TypingSites.StandsIn hiding (TypingSites.judgement_sites [] (codes "f") oper_f) (1 ∷ 1 ∷ []) []
+    (TypingSites.a_term hiding_name) (TypingSites.as_type sort_type) TypingSites.parameter_wanted
+stands_as_parameter = TypingSites.within_it 0 (TypingSites.at_site 0 refl TypingSites.to_mode)
+    (ap (λ d. slice_get (TypingSites.term_sites d (TypingSites.given sort_type) TypingSites.any_role) 0) (form-roll _)) TypingSites.to_mode
+
+pub function_is_hidden : TypeFaults.BreaksTypes hiding [] (whole (codes "f")) oper_f (1 ∷ 1 ∷ []) (refusal R.FunctionHere (place_of hiding_name) [])
+function_is_hidden = TypeFaults.in_sites (TypeFaults.at_term stands_as_parameter
+    (TypeFaults.parameter_takes_function refl hidden_type takes_function
+    (λ xs a b p e. let k = form-roll (T.Var (WholeName (whole (codes "F"))) (here 3 13)) in cc)))
 
 -- oper f = overload {} : f alone takes no alternative
 abbrev no_alternatives : Flat

@@ -7,7 +7,7 @@ use Rattle.gft_core.specs.Words.{words_of}
 use Rattle.gft_syntax.specs.declared.ctype.CType.{CType, out-CType, roll-CType}
 use Rattle.gft_syntax.specs.declared.ctype.CType.TheOpen as C
 use Rattle.gft_syntax.specs.declared.ctype.CType.TheViews.{out-roll-CType}
-use Rattle.gft_syntax.specs.declared.ctype.CType.TheFolds.{fold-roll-CType}
+use Rattle.gft_syntax.specs.declared.ctype.CType.TheFolds.{fold-roll-CType, para-roll-CType}
 use Rattle.gft_syntax.specs.declared.linear.Branches.TheVariants.{Matched}
 use Rattle.gft_syntax.specs.declared.linear.LinTerm.{LinTerm}
 use Rattle.gft_syntax.specs.declared.linear.LinTerm.TheOpen as L
@@ -33,6 +33,7 @@ use Rattle.gft_model.specs.Matching.{same_whole}
 use Rattle.gft_model.specs.PatternTyping.{pattern_form, no_more, Scope, PatternFits, Constructs, constructs, sequence, variable, literal as text_literal, constructor_with}
 use Rattle.gft_model.specs.TypeForms.{record_type, form, str_type, number_type, table_type, function_type, predef_term, greatest, made}
 use Rattle.gft_model.proofs.Computing.{form-roll, pattern_form-roll, match-roll}
+use Rattle.gft_model.specs.WrittenTypes.{takes_data, takes_data_step}
 use Rattle.gft_model.proofs.TypeLaws.{type-once}
 use Rattle.gft_model.proofs.FoundTypes.{find-once, fields-empty, check_form_is, same-tag, apart-tags, record-passes}
 use Rattle.gft_model.proofs.PatternLaws.{form_is}
@@ -249,11 +250,14 @@ f = roll-Term (F.Var (WholeName (whole (codes "f"))) nowhere)
 abbrev from_str : CType → CType
 from_str T = function_type str_type T
 
+str_takes_data : takes_data str_type ≡ true
+str_takes_data = para-roll-CType Bool takes_data_step C.Str
+
 one_is : IsType overload one_word (from_str str_type)
-one_is = function_from (form-roll _) (text_type (form-roll _)) (str_data overload) (text_type (form-roll _))
+one_is = function_from (form-roll _) (text_type (form-roll _)) str_takes_data (text_type (form-roll _))
 
 two_is : IsType overload two_words (from_str (from_str str_type))
-two_is = function_from (form-roll _) (text_type (form-roll _)) (str_data overload) one_is
+two_is = function_from (form-roll _) (text_type (form-roll _)) str_takes_data one_is
 
 abbrev second_on : LinTerm → LinTerm → LinTerm
 second_on t u = made (L.App (made (L.App (made (L.Oper 1)) t)) u)

@@ -228,10 +228,10 @@ module _ (items : List Item) where
       typed_alone : {Γ gs fs x e D ls ts S t : _} → field_of x gs ≡ None → IsType items D S → IsData S → Checks Γ e S t →
           FieldsHave Γ gs ls fs ts → FieldsHave Γ gs (TypedValue (x ∷ []) D e ∷ ls) ((x, S) ∷ fs) ((x, t) ∷ ts)
 
-    -- locals of data, each seeing those before it; the names of one do not see each other
+    -- locals, each seeing those before it; the names of one do not see each other
     pub data Defines : Scope → List (Local Term) → Scope → List (List (List ℕ) × LinTerm) → Type 0 where
       no_local : {Γ : _} → Defines Γ [] Γ []
-      local : {Γ Δ xs e ls ds T t : _} → Finds Γ e T t → IsData T → Defines (with_names xs T Γ) ls Δ ds →
+      local : {Γ Δ xs e ls ds T t : _} → Finds Γ e T t → Defines (with_names xs T Γ) ls Δ ds →
           Defines Γ (Value xs e ∷ ls) Δ ((xs, t) ∷ ds)
-      typed_local : {Γ Δ xs e D ls ds T t : _} → IsType items D T → IsData T → Checks Γ e T t →
+      typed_local : {Γ Δ xs e D ls ds T t : _} → IsType items D T → Checks Γ e T t →
           Defines (with_names xs T Γ) ls Δ ds → Defines Γ (TypedValue xs D e ∷ ls) Δ ((xs, t) ∷ ds)

@@ -10,7 +10,7 @@ use Rattle.gft_syntax.specs.declared.linear.Typed.{Typed}
 use Rattle.gft_syntax.specs.declared.value.Value.{Value}
 use Rattle.gft_model.specs.Items.{Item, items_of, lincat, linear}
 use Rattle.gft_model.specs.JudgementTyping.{literal_type, signature_in}
-use Rattle.gft_model.specs.Outcomes.{Outcome, outcomes, Results, plain, function, none, and_then, results_of, opers_of, no_environment}
+use Rattle.gft_model.specs.Outcomes.{Outcome, outcomes, TermResults, plain, function, none, and_then, results_of, opers_of, no_environment}
 
 -- a judgement of that keyword in a language, by its name
 abbrev pub is_judgement : Keyword → List ℕ → List ℕ → Item → Bool
@@ -32,9 +32,9 @@ lin_type flat lang C =
     else option_map (λ t. t.ctype) (typed_at flat K.Lincat lang C)
 
 -- the outcomes of a function of data on values, one argument after the other
-abbrev pub applied_to_all : Results → List Value → Results
+abbrev pub applied_to_all : TermResults → List Value → TermResults
 applied_to_all r [] = r
-applied_to_all r (v ∷ vs) = and_then r (λ m. elim m [ plain u ↦ none | function f ↦ applied_to_all (f v) vs ])
+applied_to_all r (v ∷ vs) = and_then r (λ m. elim m [ plain u ↦ none | function f ↦ applied_to_all (f (plain v)) vs ])
 
 -- the outcomes of a closed term on values, with the opers of the grammar
 abbrev pub outcomes_on : Flat → LinTerm → List Value → List Outcome

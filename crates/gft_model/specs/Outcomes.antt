@@ -44,151 +44,194 @@ given [] = []
 given (gives v ∷ os) = v ∷ given os
 given (stuck_at k ∷ os) = given os
 
--- what a term may mean, and its outcomes in order
+-- what a term may mean where functions take what is of the kind A, and its outcomes in order, stuck steps among them
 mutual
-  -- a value, or a function of one
-  pub data Meaning : Type 0 where
-    plain : Value → Meaning
-    function : (Value → Results) → Meaning
+  -- a value, or a function
+  pub data Meaning (A : Type 0) : Type 0 where
+    plain : Value → Meaning A
+    function : (A → Results A) → Meaning A
 
-  -- the outcomes in order, stuck steps among them
-  pub data Results : Type 0 where
-    none : Results
-    also : Meaning → Results → Results
-    stuck : Stuck → Results → Results
+  -- the outcomes in order
+  pub data Results (A : Type 0) : Type 0 where
+    none : Results A
+    also : Meaning A → Results A → Results A
+    stuck : Stuck → Results A → Results A
+
+-- what a function may be given: a value, or a function of values; terms mean values, and functions of these
+abbrev pub Operand : Type 0
+Operand = Meaning Value
 
 -- one outcome
-abbrev pub one : Meaning → Results
+abbrev pub one : {A : Type 0} → Meaning A → Results A
 one m = also m none
 
 -- one stuck step
-abbrev pub stuck_by : Rule → Place → Results
+abbrev pub stuck_by : {A : Type 0} → Rule → Place → Results A
 stuck_by rule place = stuck (record { rule = rule; place = place }) none
 
 -- the outcomes of the first, then those of the second
-abbrev pub followed_by : Results → Results → Results
+abbrev pub followed_by : {A : Type 0} → Results A → Results A → Results A
 followed_by none s = s
 followed_by (also m r) s = also m (followed_by r s)
 followed_by (stuck k r) s = stuck k (followed_by r s)
 
 -- for each outcome of the first, the outcomes of what comes next; a stuck step stays
-abbrev pub and_then : Results → (Meaning → Results) → Results
+abbrev pub and_then : {A B : Type 0} → Results A → (Meaning A → Results B) → Results B
 and_then none next = none
 and_then (also m r) next = followed_by (next m) (and_then r next)
 and_then (stuck k r) next = stuck k (and_then r next)
 
--- the same where what comes next wants data
-abbrev pub with_value : Results → (Value → Results) → Results
+-- what is given, as what a term means: a function of values, as one that takes no functions
+abbrev mutual
+  pub raised : Operand → Meaning Operand
+  raised (plain v) = plain v
+  raised (function f) = function (λ m. elim m [ plain v ↦ raised_all (f v) | function g ↦ none ])
+
+  pub raised_all : Results Value → Results Operand
+  raised_all none = none
+  raised_all (also m r) = also (raised m) (raised_all r)
+  raised_all (stuck k r) = stuck k (raised_all r)
+
+-- and back: what a term means, as what is given; a function is given values alone
+abbrev mutual
+  pub lowered : Meaning Operand → Operand
+  lowered (plain v) = plain v
+  lowered (function f) = function (λ v. lowered_all (f (plain v)))
+
+  pub lowered_all : Results Operand → Results Value
+  lowered_all none = none
+  lowered_all (also m r) = also (lowered m) (lowered_all r)
+  lowered_all (stuck k r) = stuck k (lowered_all r)
+
+-- the same as and_then where what comes next wants data
+abbrev pub with_value : {A B : Type 0} → Results A → (Value → Results B) → Results B
 with_value r next = and_then r (λ m. elim m [ plain v ↦ next v | function f ↦ none ])
 
--- one value of each, from left to right
-abbrev pub with_values : List Results → (List Value → Results) → Results
+-- one outcome of each, from left to right, and one value of each
+abbrev pub with_all : {A B : Type 0} → List (Results A) → (List (Meaning A) → Results B) → Results B
+with_all [] next = next []
+with_all (r ∷ rs) next = and_then r (λ m. with_all rs (λ ms. next (m ∷ ms)))
+
+abbrev pub with_values : {A B : Type 0} → List (Results A) → (List Value → Results B) → Results B
 with_values [] next = next []
 with_values (r ∷ rs) next = with_value r (λ v. with_values rs (λ vs. next (v ∷ vs)))
 
 -- the outcomes of each, one after the other
-abbrev pub all_of : List Results → Results
+abbrev pub all_of : {A : Type 0} → List (Results A) → Results A
 all_of [] = none
 all_of (r ∷ rs) = followed_by r (all_of rs)
 
 -- the outcomes of data
-abbrev pub outcomes : Results → List Outcome
+abbrev pub outcomes : {A : Type 0} → Results A → List Outcome
 outcomes none = []
 outcomes (also (plain v) r) = gives v ∷ outcomes r
 outcomes (also (function f) r) = outcomes r
 outcomes (stuck k r) = stuck_at k ∷ outcomes r
 
--- the values of the arguments of a judgement, and of the variables, the nearest first
+-- what a term of a grammar means: its outcomes in an environment
+abbrev pub TermResults : Type 0
+TermResults = Results Operand
+
+-- the values of the arguments of a judgement, and what the variables are, the nearest first
 pub record Environment : Type 0 where
   pub arguments : List Value
-  pub variables : Bindings
+  pub variables : List (List ℕ × Meaning Operand)
 
--- variables with their values, before the others
-abbrev pub bind_all : Bindings → Environment → Environment
+-- variables before the others, and those of a pattern with their values
+abbrev pub bind_all : List (List ℕ × Meaning Operand) → Environment → Environment
 bind_all bs env = record { arguments = env.arguments; variables = bs ++ env.variables }
 
+abbrev pub bind_values : Bindings → Environment → Environment
+bind_values bs env = bind_all (map (λ b. (b.0, plain b.1)) bs) env
+
 -- a value that is there
-abbrev pub just : Option Value → Results
+abbrev pub just : Option Value → TermResults
 just v = option_map_or (λ u. one (plain u)) v none
 
 -- for each outcome what comes next of the part that is wanted; a value without it has no outcome
-abbrev pub with_part : {A : Type 0} → (Value-F Value → Option A) → Results → (A → Results) → Results
+abbrev pub with_part : {A : Type 0} → (Value-F Value → Option A) → TermResults → (A → TermResults) → TermResults
 with_part view r next = with_value r (λ v. option_map_or next (view (out-Value v)) none)
 
 -- the same of the parameter that a value is
-abbrev pub with_param : Results → (Param → Results) → Results
+abbrev pub with_param : TermResults → (Param → TermResults) → TermResults
 with_param r next = with_value r (λ v. option_map_or next (param_of v) none)
 
 -- what is made of the words of a string that holds words only; else it is stuck
-abbrev pub with_words : Rule → Place → List Sym → (List (List ℕ) → Results) → Results
+abbrev pub with_words : Rule → Place → List Sym → (List (List ℕ) → TermResults) → TermResults
 with_words rule place ss next = option_map_or next (known_words ss) (stuck_by rule place)
 
 -- a part of a known text, cut into words again
-abbrev pub predef_string : Predef → ℕ → List (List ℕ) → Results
+abbrev pub predef_string : Predef → ℕ → List (List ℕ) → TermResults
 predef_string p n ws = one (plain (words_value (words_of (encode_utf8_all (part p n (chars (joined ws)))))))
 
 -- where a number is wanted
-abbrev pub on_number : (ℕ → Results) → Param-F Param → Results
+abbrev pub on_number : (ℕ → TermResults) → Param-F Param → TermResults
 on_number f (Param-F.Ints n) = f n
 on_number f v = none
 
 -- where no branch matches, a text is stuck
-abbrev pub no_branch : Place → Subject → Results
+abbrev pub no_branch : Place → Subject → TermResults
 no_branch place (parameter v) = none
 no_branch place (Subject.text cs) = stuck_by R.NoStringBranch place
 no_branch place (closed ss) = stuck_by R.MatchOnArgument place
 
 -- the branch, the next one, or what there is where that cannot be told
-abbrev pub taken : Match → (Bindings → Results) → Results → Results → Results
+abbrev pub taken : Match → (Bindings → TermResults) → TermResults → TermResults → TermResults
 taken (matched bs) here after untold = here bs
 taken differs here after untold = after
 taken hidden here after untold = untold
 
 -- the first branch that matches; else the one, where that cannot be told, or the other, where none matches
-abbrev pub first_match : Results → Results → Subject → List (Pattern × (Environment → Results)) → Environment → Results
+abbrev pub first_match : TermResults → TermResults → Subject → List (Pattern × (Environment → TermResults)) → Environment → TermResults
 first_match untold unmatched s [] env = unmatched
 first_match untold unmatched s (b ∷ bs) env =
-    taken (match_of b.0 s) (λ vs. b.1 (bind_all vs env)) (first_match untold unmatched s bs env) untold
+    taken (match_of b.0 s) (λ vs. b.1 (bind_values vs env)) (first_match untold unmatched s bs env) untold
 
 -- the item at the subject's number among the values of the type
-abbrev pub item_at : Subject → List (Param × (Environment → Results)) → Environment → Results
+abbrev pub item_at : Subject → List (Param × (Environment → TermResults)) → Environment → TermResults
 item_at (parameter v) items env = option_map_or (λ t. t env) (entry_at v items) none
 item_at s items env = none
 
 -- the branch at the subject
-abbrev pub branch_at : Results → Results → Subject → Branches (Environment → Results) → Environment → Results
+abbrev pub branch_at : TermResults → TermResults → Subject → Branches (Environment → TermResults) → Environment → TermResults
 branch_at untold unmatched s (Matched bs) env = first_match untold unmatched s bs env
 branch_at untold unmatched s (Listed P ts) env = item_at s (zip (values_of P) ts) env
 
 -- what a selector is to branches
-abbrev pub subject_of : Value-F Value → Value → (Subject → Results) → Results
+abbrev pub subject_of : Value-F Value → Value → (Subject → TermResults) → TermResults
 subject_of (Value-F.Str ss) v next = next (string_subject ss)
 subject_of (Value-F.Param p) v next = next (parameter p)
 subject_of d v next = option_map_or (λ p. next (parameter p)) (param_of v) none
 
 -- how a function of the given type is made one of a supertype
-abbrev pub Cutting : Type 0
-Cutting = CType → (Value → Results) → Results
+abbrev pub Cutting : Type 0 → Type 0
+Cutting A = CType → (A → Results A) → Meaning A
 
 -- what is of type S, cut to a supertype
-abbrev pub cut_meaning : CType × Cutting → CType → Meaning → Results
-cut_meaning T S (plain v) = one (plain (cut_value T.0 v))
+abbrev pub cut_meaning : {A : Type 0} → CType × Cutting A → CType → Meaning A → Meaning A
+cut_meaning T S (plain v) = plain (cut_value T.0 v)
 cut_meaning T S (function f) = T.1 S f
 
--- how functions of a layer are cut: the argument to what the function's own type takes, and the result to what the
--- supertype gives
-abbrev pub cutting_step : CType-F (CType × Cutting) → Cutting
-cutting_step (CType-F.Fun P R) S f = option_map_or
-    (λ p. one (function (λ v. and_then (f (cut_value p.0 v)) (cut_meaning R p.1)))) (function_in (out-CType S)) none
-cutting_step d S f = none
+-- how functions of a layer are cut: the argument to what the function's own type takes, before the function takes it, and
+-- the result to what the supertype gives; arguments are cut from one type to another in the given way
+abbrev pub cutting_step : {A : Type 0} → (CType → CType → A → A) → CType-F (CType × Cutting A) → Cutting A
+cutting_step cut (CType-F.Fun P R) S f = option_map_or
+    (λ s. function (λ a. and_then (f (cut P.0 s.0 a)) (λ m. one (cut_meaning R s.1 m)))) (function_in (out-CType S)) (function f)
+cutting_step cut d S f = function f
 
--- what is of type S, cut to its supertype T
-abbrev pub cut_to : CType → CType → Meaning → Results
-cut_to S T = cut_meaning (T, para-CType Cutting cutting_step T) S
+abbrev pub cut_by : {A : Type 0} → (CType → CType → A → A) → CType → CType → Meaning A → Meaning A
+cut_by {A} cut S T = cut_meaning (T, para-CType (Cutting A) (cutting_step cut) T) S
+
+-- what is given, of type S, cut to its supertype T; and so what a term means, whose functions take what is given
+abbrev pub cut_operand : CType → CType → Operand → Operand
+cut_operand = cut_by (λ S T v. cut_value T v)
+
+abbrev pub cut_to : CType → CType → Meaning Operand → Meaning Operand
+cut_to = cut_by cut_operand
 
 -- what a layer means, from what its parts mean, where the opers mean what is given
-abbrev pub step : (ℕ → Results) → LinTerm-F (Environment → Results) → Environment → Results
-step opers (LinTerm-F.Var x) env = just (field_of x env.variables)
+abbrev pub step : (ℕ → TermResults) → LinTerm-F (Environment → TermResults) → Environment → TermResults
+step opers (LinTerm-F.Var x) env = option_map_or one (field_of x env.variables) none
 step opers (LinTerm-F.Arg i) env = just (slice_get env.arguments i)
 step opers (LinTerm-F.Words ws) env = one (plain (words_value ws))
 step opers (LinTerm-F.Num n) env = one (plain (param_value (number_param n)))
@@ -219,19 +262,20 @@ step opers (LinTerm-F.Case e bs place) env =
     (λ s. branch_at (stuck_by R.MatchOnArgument place) (no_branch place s) s bs env))
 step opers (LinTerm-F.Variants ts) env = all_of (map (λ t. t env) ts)
 step opers (LinTerm-F.Let xs a b) env =
-    with_values (map (λ x. a env) xs) (λ vs. b (bind_all (reverse (zip xs vs)) env))
-step opers (LinTerm-F.Cut t S T) env = and_then (t env) (cut_to S T)
+    with_all (map (λ x. a env) xs) (λ ms. b (bind_all (reverse (zip xs ms)) env))
+step opers (LinTerm-F.Cut t S T) env = and_then (t env) (λ m. one (cut_to S T m))
 step opers (LinTerm-F.Oper k) env = opers k
-step opers (LinTerm-F.Lambda x b) env = one (function (λ v. b (bind_all (map (λ y. (y, v)) (option_to_list x)) env)))
+step opers (LinTerm-F.Lambda x b) env =
+    one (function (λ m. b (bind_all (map (λ y. (y, raised m)) (option_to_list x)) env)))
 step opers (LinTerm-F.App f a) env =
-    and_then (f env) (λ m. elim m [ plain v ↦ none | function g ↦ with_value (a env) g ])
+    and_then (f env) (λ m. elim m [ plain v ↦ none | function g ↦ and_then (a env) (λ n. g (lowered n)) ])
 
 -- what a term means in an environment, where the opers mean what is given
-abbrev pub results_of : (ℕ → Results) → LinTerm → Environment → Results
-results_of opers = fold-LinTerm (Environment → Results) (step opers)
+abbrev pub results_of : (ℕ → TermResults) → LinTerm → Environment → TermResults
+results_of opers = fold-LinTerm (Environment → TermResults) (step opers)
 
 -- the outcomes of a term of data, in order
-abbrev pub outcomes_of : (ℕ → Results) → LinTerm → Environment → List Outcome
+abbrev pub outcomes_of : (ℕ → TermResults) → LinTerm → Environment → List Outcome
 outcomes_of opers t env = outcomes (results_of opers t env)
 
 -- no arguments and no variables
@@ -239,12 +283,12 @@ abbrev pub no_environment : Environment
 no_environment = record { arguments = []; variables = [] }
 
 -- what the oper of a number means, where at most so many opers are within one another
-abbrev pub opers_within : ℕ → List (Option Typed) → ℕ → Results
+abbrev pub opers_within : ℕ → List (Option Typed) → ℕ → TermResults
 opers_within zero typed k = none
 opers_within (suc n) typed k =
     option_map_or (λ t. results_of (opers_within n typed) t.term no_environment)
     (option_and_then (λ t. t) (slice_get typed k)) none
 
 -- what the opers mean: the outcomes of their definitions; none needs itself
-abbrev pub opers_of : List (Option Typed) → ℕ → Results
+abbrev pub opers_of : List (Option Typed) → ℕ → TermResults
 opers_of typed = opers_within (length typed) typed

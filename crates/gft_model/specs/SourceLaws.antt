@@ -21,7 +21,7 @@ use Rattle.gft_model.specs.JudgementTyping.{items, IsTyped}
 use Rattle.gft_model.specs.PatternTyping.{Scope, PatternFits}
 use Rattle.gft_model.specs.Productions.{case_values}
 use Rattle.gft_model.specs.Values.{case_of}
-use Rattle.gft_model.specs.Outcomes.{Results, Environment, outcomes_of}
+use Rattle.gft_model.specs.Outcomes.{TermResults, Environment, outcomes_of}
 use Rattle.gft_model.specs.Source.{Tokens}
 
 -- a file has at most one list of tokens
@@ -56,12 +56,12 @@ SpelledModuleIsDetermined = (ts : List SourceToken) (m n : Module) → SpellsMod
 -- the outcomes of a | b are those of a, then those of b
 abbrev pub AlternativesInOrder : Type 0
 AlternativesInOrder =
-    (opers : ℕ → Results) (a b : LinTerm) (env : Environment) →
+    (opers : ℕ → TermResults) (a b : LinTerm) (env : Environment) →
     outcomes_of opers (roll-LinTerm (Lin-F.Variants (a ∷ b ∷ []))) env ≡ outcomes_of opers a env ++ outcomes_of opers b env
 
 -- variants {} has no outcome
 abbrev pub NoVariants : Type 0
-NoVariants = (opers : ℕ → Results) (env : Environment) → outcomes_of opers (roll-LinTerm (Lin-F.Variants [])) env ≡ []
+NoVariants = (opers : ℕ → TermResults) (env : Environment) → outcomes_of opers (roll-LinTerm (Lin-F.Variants [])) env ≡ []
 
 -- a type has as many parameter values as are counted
 abbrev pub ValuesAreCounted : Type 0

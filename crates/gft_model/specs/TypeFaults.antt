@@ -6,6 +6,7 @@ use Rattle.std.specs.Option.{is_some}
 use Rattle.gft_rules.specs.declared.refusal.Refusal.{Refusal}
 use Rattle.gft_rules.specs.declared.rule.Rule.{Rule}
 use Rattle.gft_rules.specs.declared.rule.Rule.TheVariants as R
+use Rattle.gft_syntax.specs.declared.bind.Bind.{Bind}
 use Rattle.gft_syntax.specs.declared.ctype.CType.{CType, out-CType}
 use Rattle.gft_syntax.specs.declared.flat.Flat.{Flat}
 use Rattle.gft_syntax.specs.declared.judgement.Definition.TheVariants as D
@@ -28,6 +29,7 @@ use Rattle.gft_syntax.specs.Parts.{bind_place, is_value, local_names, pattern_pl
 use Rattle.gft_syntax.specs.Terms.{Layer, place_of}
 use Rattle.gft_model.specs.ConcreteTypes.{field_of, is_finite, count_of, values_of, record_in, table_in, function_in, IsSubtype}
 use Rattle.gft_model.specs.ConcreteTyping.{IsType, IsParameter, IsDomain, Fits, Checks, FindsAll, Suits, Stands, a_bare_parameter, an_oper, an_overload, passes, is_covered, most_values, patterns}
+use Rattle.gft_model.specs.WrittenTypes.{takes_data}
 use Rattle.gft_model.specs.Modules.{placed_names}
 use Rattle.gft_model.specs.Items.{Item, items_in, parameter_type}
 use Rattle.gft_model.specs.JudgementTyping.{items, IsSort}
@@ -36,7 +38,7 @@ use Rattle.gft_model.specs.Refusals.{Moment, refusal}
 use Rattle.gft_model.specs.Resting.{Rests, answers_to}
 use Rattle.gft_model.specs.TypeForms.{form, str_type, number_type, table_type, functions}
 use Rattle.gft_model.specs.TypeTexts.{type_text, param_text}
-use Rattle.gft_model.specs.TypingSites.{Mode, found, given, as_type, over, Role, data_wanted, finite_wanted, to_fit, selected, applied, a_term, a_pattern, Site, term_mode, value_mode, FoundFor, HasOverload, IsConstructorOf, StandsIn, judgement_sites}
+use Rattle.gft_model.specs.TypingSites.{Mode, found, given, as_type, over, Role, data_wanted, parameter_wanted, finite_wanted, to_fit, selected, applied, a_term, a_pattern, Site, term_mode, value_mode, FoundFor, HasOverload, IsConstructorOf, StandsIn, judgement_sites}
 
 -- the first of the labels that are wanted which is not there
 abbrev pub first_absent : List (List ℕ) → List (List ℕ) → Option (List ℕ)
@@ -130,6 +132,8 @@ module _ (flat : Flat) where
           FoundFor flat f Γ A → function_in (out-CType A) ≡ None → BreaksTerm [] R.NotFunction (type_text A ∷ [])
       function_for_data : {F A B : _} → (r ≡ data_wanted) ⊎ (r ≡ finite_wanted) → Has F →
           function_in (out-CType F) ≡ Some (A, B) → BreaksTerm [] R.FunctionHere []
+      parameter_takes_function : {A : _} → r ≡ parameter_wanted → IsType (items flat) e A → takes_data A ≡ false →
+          ((xs : List Bind) (a b : Term) (p : Place) → ¬ (form e ≡ T.Arrow xs a b p)) → BreaksTerm [] R.FunctionHere []
       argument_not_finite : {A : _} → r ≡ finite_wanted → IsType (items flat) e A → is_finite A ≡ false →
           BreaksTerm [] R.NotFinite (type_text A ∷ [])
       over_no_finite : {A : _} → IsOver A → is_finite A ≡ false →

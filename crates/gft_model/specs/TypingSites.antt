@@ -41,11 +41,12 @@ pub data Mode : Type 0 where
   as_type : CType → Mode
   over : CType → Mode
 
--- what is wanted of it beside: nothing; data; a finite type; that its type fits another; or it is selected from
--- directly, or applied
+-- what is wanted of it beside: nothing; data; what a parameter may be, a function only where it takes data; a finite type;
+-- that its type fits another; or it is selected from directly, or applied
 pub data Role : Type 0 where
   any_role : Role
   data_wanted : Role
+  parameter_wanted : Role
   finite_wanted : Role
   to_fit : CType → Role
   selected : Role
@@ -138,11 +139,22 @@ field_sites gs (Label xs t) = type_site data_wanted t ∷ []
 field_sites gs (TypedValue xs t e) =
     type_site data_wanted t ∷ map (λ x. site (option_map_or to_fit (field_of x gs) any_role) (by given (written t)) e) xs
 
--- locals as fields, each seeing those before it, and the term that sees them all
+-- a local: one with a type of its own is given that, and every other is found
+abbrev pub local_sites : Local Term → List Site
+local_sites (Value xs e) = map (λ x. site any_role (in_mode found) e) xs
+local_sites (Label xs t) = type_site any_role t ∷ []
+local_sites (TypedValue xs t e) = type_site any_role t ∷ map (λ x. site any_role (by given (written t)) e) xs
+
+-- the sides of an arrow; where it is a parameter in turn, its own parameter and those of its result are data
+abbrev pub arrow_sites : Role → Term → Term → List Site
+arrow_sites parameter_wanted a b = type_site data_wanted a ∷ type_site parameter_wanted b ∷ []
+arrow_sites r a b = type_site parameter_wanted a ∷ type_site any_role b ∷ []
+
+-- locals, each seeing those before it, and the term that sees them all
 abbrev pub let_sites : List (Local Term) → List (Local Term) → Mode → Term → List Site
 let_sites before [] m e = site any_role (after before (in_mode m)) e ∷ []
 let_sites before (l ∷ ls) m e =
-    map (λ (s : Site). record s { way = after before s.way }) (field_sites [] l) ++ let_sites (before ++ l ∷ []) ls m e
+    map (λ (s : Site). record s { way = after before s.way }) (local_sites l) ++ let_sites (before ++ l ∷ []) ls m e
 
 -- a selection: for a table without its type the selector comes first
 abbrev pub select_sites : Layer → Term → Term → List Site
@@ -150,31 +162,31 @@ select_sites (T.TableOf None cs place) a b = site any_role (in_mode found) b ∷
 select_sites (T.TableOf (Some t) cs place) a b = site selected (in_mode found) a ∷ site any_role (by given (written t)) b ∷ []
 select_sites d a b = site any_role (in_mode found) a ∷ site any_role (by given (left_of table_in a)) b ∷ []
 
--- the parts of a term in a mode, in the order in which they are typed; a lambda, \\ or table without its type has none
--- where no type is there for it
-abbrev pub term_sites : Layer → Mode → List Site
-term_sites (T.Fun (x ∷ []) e place) (given F) = site any_role (inside function_in x F) e ∷ []
-term_sites (T.TabFun (x ∷ []) e place) (given F) = site any_role (inside table_in x F) e ∷ []
-term_sites (T.Arrow xs a b place) m = type_site data_wanted a ∷ type_site any_role b ∷ []
-term_sites (T.TabType a b place) m = type_site any_role a ∷ type_site data_wanted b ∷ []
-term_sites (T.Let ls e place) m = let_sites [] ls m e
-term_sites (T.Concat a b place) m = map (site any_role (in_mode (given str_type))) (a ∷ b ∷ [])
-term_sites (T.Glue a b place) m = map (site any_role (in_mode (given str_type))) (a ∷ b ∷ [])
-term_sites (T.Select a b place) m = select_sites (form a) a b
-term_sites (T.Extend a b place) m = map (site any_role (in_mode found)) (a ∷ b ∷ [])
-term_sites (T.Pair a b place) m = map (type_site data_wanted) (a ∷ b ∷ [])
-term_sites (T.TableOf None cs place) (given F) =
+-- the parts of a term in a mode and a role, in the order in which they are typed; a lambda, \\ or table without its type
+-- has none where no type is there for it
+abbrev pub term_sites : Layer → Mode → Role → List Site
+term_sites (T.Fun (x ∷ []) e place) (given F) r = site any_role (inside function_in x F) e ∷ []
+term_sites (T.TabFun (x ∷ []) e place) (given F) r = site any_role (inside table_in x F) e ∷ []
+term_sites (T.Arrow xs a b place) m r = arrow_sites r a b
+term_sites (T.TabType a b place) m r = type_site any_role a ∷ type_site data_wanted b ∷ []
+term_sites (T.Let ls e place) m r = let_sites [] ls m e
+term_sites (T.Concat a b place) m r = map (site any_role (in_mode (given str_type))) (a ∷ b ∷ [])
+term_sites (T.Glue a b place) m r = map (site any_role (in_mode (given str_type))) (a ∷ b ∷ [])
+term_sites (T.Select a b place) m r = select_sites (form a) a b
+term_sites (T.Extend a b place) m r = map (site any_role (in_mode found)) (a ∷ b ∷ [])
+term_sites (T.Pair a b place) m r = map (type_site data_wanted) (a ∷ b ∷ [])
+term_sites (T.TableOf None cs place) (given F) r =
     option_map_or (λ p. table_sites (this p.0) (given p.1) cs) (table_in (out-CType F)) []
-term_sites (T.TableOf None cs place) (over A) = table_sites (this A) found cs
-term_sites (T.TableOf (Some t) cs place) m = type_site any_role t ∷ table_sites (written t) (value_mode m) cs
-term_sites (T.TableList t es place) m = type_site any_role t ∷ member_sites (value_mode m) es
-term_sites (T.App f a place) m = site applied (in_mode found) f ∷ site any_role (argument_for f) a ∷ []
-term_sites (T.CaseOf e cs place) m = site any_role (in_mode found) e ∷ table_sites (found_for e) m cs
-term_sites (T.Variants es place) m = member_sites m es
-term_sites (T.Proj e x place) m = site any_role (in_mode found) e ∷ []
-term_sites (T.Fields ls place) m = flat_map (field_sites (fields_given m)) ls
-term_sites (T.Typed e t place) m = type_site any_role t ∷ site any_role (by given (written t)) e ∷ []
-term_sites d m = []
+term_sites (T.TableOf None cs place) (over A) r = table_sites (this A) found cs
+term_sites (T.TableOf (Some t) cs place) m r = type_site any_role t ∷ table_sites (written t) (value_mode m) cs
+term_sites (T.TableList t es place) m r = type_site any_role t ∷ member_sites (value_mode m) es
+term_sites (T.App f a place) m r = site applied (in_mode found) f ∷ site any_role (argument_for f) a ∷ []
+term_sites (T.CaseOf e cs place) m r = site any_role (in_mode found) e ∷ table_sites (found_for e) m cs
+term_sites (T.Variants es place) m r = member_sites m es
+term_sites (T.Proj e x place) m r = site any_role (in_mode found) e ∷ []
+term_sites (T.Fields ls place) m r = flat_map (field_sites (fields_given m)) ls
+term_sites (T.Typed e t place) m r = type_site any_role t ∷ site any_role (by given (written t)) e ∷ []
+term_sites d m r = []
 
 -- the pattern of a field, for each label; one whose label the type lacks is not typed
 abbrev pub label_sites : List (List ℕ × CType) → PatternField Pattern → List Site
@@ -191,10 +203,10 @@ pattern_sites (P.Fields fs place) A = flat_map (label_sites (unwrap_or (record_i
 pattern_sites d A = []
 
 -- the parts of a term or a pattern
-abbrev pub sites_of : Node → Mode → List Site
-sites_of (a_term e) m = term_sites (form e) (term_mode m)
-sites_of (a_pattern p) (given A) = pattern_sites (pattern_form p) A
-sites_of n m = []
+abbrev pub sites_of : Node → Mode → Role → List Site
+sites_of (a_term e) m r = term_sites (form e) (term_mode m) r
+sites_of (a_pattern p) (given A) r = pattern_sites (pattern_form p) A
+sites_of n m r = []
 
 -- a definition: a term, or the alternatives of an overload
 abbrev pub definition_sites : Way → List Bind → Definition → List Site
@@ -262,5 +274,5 @@ module _ (flat : Flat) where
   pub data StandsIn (sites : List Site) : Moment → Scope → Node → Mode → Role → Type 0 where
     at_site : (k : ℕ) {s : Site} {Δ m : _} → slice_get sites k ≡ Some s → Leads s.way [] Δ m →
         StandsIn sites (suc k ∷ []) Δ s.node m s.role
-    within_it : {path Γ Δ n m l r : _} (k : ℕ) {s : Site} → StandsIn sites path Γ n m r → slice_get (sites_of n m) k ≡ Some s →
+    within_it : {path Γ Δ n m l r : _} (k : ℕ) {s : Site} → StandsIn sites path Γ n m r → slice_get (sites_of n m r) k ≡ Some s →
         Leads s.way Γ Δ l → StandsIn sites (path ++ suc k ∷ []) Δ s.node l s.role

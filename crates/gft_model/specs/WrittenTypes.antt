@@ -1,10 +1,12 @@
 -- Which terms are types where a type must stand, and what whole names mean there.
-use Rattle.std.specs.Prelude.{◌≡◌, ℕ, suc, ◌+◌, ◌≤◌, List, [], ◌∷◌, ◌++◌, map, ◌⊎◌, Option, Some, None, Bool, true, ◌&&◌, bytes_eq, if◌then◌else◌, slice_get}
+use Rattle.std.specs.Prelude.{◌≡◌, ℕ, suc, ◌+◌, ◌≤◌, List, [], ◌∷◌, ◌++◌, map, ◌⊎◌, Option, Some, None, Bool, true, not, ◌&&◌, bytes_eq, if◌then◌else◌, slice_get}
 use Rattle.std.specs.List.{list_any}
+use Rattle.std.specs.Option.{is_some}
 use Rattle.gft_core.specs.declared.place.Place.{Place}
 use Rattle.gft_syntax.specs.declared.bind.Bind.{Bind}
 use Rattle.gft_syntax.specs.declared.ctype.CType.{CType, out-CType}
 use Rattle.gft_syntax.specs.declared.ctype.CType.TheOpen as CType-F
+use Rattle.gft_syntax.specs.declared.ctype.CType.TheFolds.{para-CType}
 use Rattle.gft_syntax.specs.declared.judgement.Constructor.{Constructor}
 use Rattle.gft_syntax.specs.declared.judgement.Context.{Context}
 use Rattle.gft_syntax.specs.declared.reference.Whole.{Whole}
@@ -14,14 +16,22 @@ use Rattle.gft_syntax.specs.declared.term.Local.TheVariants.{Label}
 use Rattle.gft_syntax.specs.declared.term.Sort.TheVariants as Sort-V
 use Rattle.gft_syntax.specs.declared.term.Term.{Term}
 use Rattle.gft_syntax.specs.declared.term.Term.TheOpen as Term-F
-use Rattle.gft_model.specs.ConcreteTypes.{is_finite, count_of}
+use Rattle.gft_model.specs.ConcreteTypes.{is_finite, count_of, function_in}
 use Rattle.gft_model.specs.Items.{Item, parameter_type, bare_parameter, oper, alternative}
 use Rattle.gft_model.specs.Matching.{same_whole, tuple_fields}
 use Rattle.gft_model.specs.TypeForms.{form, str_type, number_type, record_type, table_type, functions, sort_type, sort_param}
 
--- a type of data: no function type. Functions stand nowhere else but in opers and what they give
+-- a type of data: no function type
 abbrev pub IsData : CType → Type 0
 IsData T = (A B : CType) → ¬ (out-CType T ≡ CType-F.Fun A B)
+
+-- whether all parameters of a layer's type are data, those of its result counted too; whatever is no function has none
+abbrev pub takes_data_step : CType-F.CType-F (CType × Bool) → Bool
+takes_data_step (CType-F.Fun A B) = not (is_some (function_in (out-CType A.0))) && B.1
+takes_data_step d = true
+
+abbrev pub takes_data : CType → Bool
+takes_data = para-CType Bool takes_data_step
 
 -- a type is used only with at most so many values
 abbrev pub most_values : ℕ
@@ -81,7 +91,7 @@ module _ (items : List Item) where
       labels : {e ls p fs : _} → form e ≡ Term-F.Fields ls p → AreLabels ls fs → IsType e (record_type fs)
       table_over : {e a b p P V : _} → form e ≡ Term-F.TabType a b p → IsType a P → IsDomain P → IsType b V → IsData V →
           IsType e (table_type P V)
-      function_from : {e a b xs p A B : _} → form e ≡ Term-F.Arrow xs a b p → IsType a A → IsData A → IsType b B →
+      function_from : {e a b xs p A B : _} → form e ≡ Term-F.Arrow xs a b p → IsType a A → takes_data A ≡ true → IsType b B →
           IsType e (functions (for_each xs A) B)
       pair_of : {e a b p Ts : _} → form e ≡ Term-F.Pair a b p → AreFactors e Ts → IsType e (record_type (tuple_fields Ts))
       parameters_named : {e w p T : _} → form e ≡ Term-F.Var (WholeName w) p → IsParameter w T → count_of T ≤ most_values →
