@@ -53,6 +53,9 @@ pub mod SentenceExamples
 pub mod CutExamples
 pub mod ForestExamples
 pub mod ListingExamples
+pub mod BracketTextExamples
+pub mod ApproximationExamples
+pub mod GeneratedExamples
 pub mod FieldLaws
 pub mod ReadBack
 pub mod ReadingExamples

@@ -46,6 +46,10 @@ pub mod Cut
 pub mod Solutions
 pub mod Listing
 pub mod Sentences
+pub mod Generated
+pub mod BracketText
+pub mod Approximation
+pub mod Fillings
 pub mod Flaws
 pub mod Fields
 pub mod Numbering
@@ -54,6 +58,7 @@ pub mod PortableFile
 pub mod Laws
 pub mod Commands
 pub mod States
+pub mod Analysis
 pub mod Unsolved
 pub mod AbstractInfo
 pub mod Sessions
