@@ -12,12 +12,12 @@ use Rattle.gft_tree.specs.Grammar as grammar
 use Rattle.gft_tree.specs.Lexemes as lexeme
 use Rattle.gft_tree.specs.Spelling.{Spells}
 use Rattle.gft_rules.specs.declared.refusal.Refusal.{Refusal}
-use Rattle.gft_model.specs.Commands.{Verb, Empty, Parse, Linearize, AbstractInfo, Argument, Nothing, Command, outside, parts, pipes_of, argument_of, bad_option, keys_of, IsArgument, files, of_empty, to_parse, to_linearize, bare, not_called, read, none, more, refused, AreJoined, last, next, ReadsPipe, pipe, bad_pipe, pipe_refused, ReadsLine}
+use Rattle.gft_model.specs.Commands.{Verb, Empty, Parse, Linearize, AbstractInfo, Argument, Nothing, Command, outside, parts, pipes_of, argument_of, bad_option, keys_of, IsArgument, files, of_empty, to_parse, to_linearize, bare, not_called, read, none, more, refused, AreJoined, last, next, ReadsPipe, pipe, bad_pipe, pipe_refused, ReadsLine, command_of, GenerateTrees, ContextFree, all_trees}
 use Rattle.gft_model.specs.Refusals.{placeless}
 
 -- a command
 abbrev pub command : Verb → List (List ℕ) → Argument → Command
-command verb options argument = record { verb = verb; options = options; argument = argument }
+command = command_of
 
 -- a semicolon in quotes does not cut, behind an escaped quote neither
 quotes : parts 59 outside (codes "p \"a;\\\";b\" ; e") ≡ codes "p \"a;\\\";b\" " ∷ codes " e" ∷ []
@@ -93,7 +93,7 @@ a_is_spelled = (
 
 -- nothing follows on `linearize` but `parse` and `complete`
 not_joined : (argument : Argument) → ¬ AreJoined (command Linearize [] argument) (command AbstractInfo [] Nothing ∷ [])
-not_joined argument (next follows nothing others) = elim follows [ ]
+not_joined argument (next follows plain nothing others) = elim follows [ ]
 
 informs : ReadsPipe (codes "l a | ai") (Err (placeless BadPipe []))
 informs = bad_pipe (more (read refl (to_linearize a_is_spelled))
@@ -104,3 +104,22 @@ no_text : {text : List ℕ} {a : Argument} → text ≡ codes "a" → ¬ IsArgum
 no_text e (to_parse inner k) = let first : true ≡ false = ap (λ cs. bytes_eq (take 1 cs) (codes "a")) (sym e ∙ k) in cc
 no_text e (files d) = elim d [ ]
 no_text e (bare l) = cc
+
+-- brackets are an option without a value
+no_value : bad_option (keys_of Linearize) (codes "-bracket=x" ∷ []) ≡ Some (codes "-bracket=x")
+unfolding is_xid_start is_xid_continue xid_start_ranges xid_continue_ranges in_ranges
+no_value = refl
+
+brackets : (command Linearize (codes "-bracket" ∷ []) Nothing).bracket ≡ true
+brackets = refl
+
+-- `gt | l`: all trees are handed on, and texts with brackets are not
+all_handed_on : AreJoined (command GenerateTrees [] Nothing) (command Linearize (codes "-bracket" ∷ []) Nothing ∷ [])
+all_handed_on = next all_trees refl refl last
+
+not_handed_on : ¬ AreJoined (command Linearize (codes "-bracket" ∷ []) Nothing) (command Parse [] Nothing ∷ [])
+not_handed_on (next follows plain nothing others) = cc
+
+-- nothing is handed on by `ma` and `cf`
+alone : (c : Command) → ¬ AreJoined (command ContextFree [] Nothing) (c ∷ [])
+alone c (next follows plain nothing others) = elim follows [ ]

@@ -16,7 +16,7 @@ use Rattle.gft_tree.specs.Spelling.{Spells}
 use Rattle.gft_tree.specs.Trees.{quoted}
 use Rattle.gft_tree.proofs.AnswerLemmas.{spells_reads}
 use Rattle.gft_core.specs.declared.tree.Tree.{Tree}
-use Rattle.gft_model.specs.Commands.{Verb, Argument, Nothing, FileNames, Given, a_tree, a_text, words_in, AreFileNames, of_import, of_write_portable, tree_rule, Command, IsArgument, files, of_empty, of_quit, to_parse, to_complete, to_linearize, by_name, all, bare, HasBadArgument, of_tree, other, called, ReadsCommand, not_called, argument_refused, read, InTurn, none, more, refused, refused_later, AreJoined, ReadsCommands, ReadsPipe, pipe, bad_pipe, pipe_refused, ReadsLine, argument_of, options_of, pipes_of}
+use Rattle.gft_model.specs.Commands.{Verb, Argument, Nothing, FileNames, Given, a_tree, a_text, words_in, AreFileNames, of_import, of_write_portable, tree_rule, Command, IsArgument, files, of_empty, of_quit, to_parse, to_complete, to_linearize, by_name, all, bare, HasBadArgument, of_tree, other, called, ReadsCommand, not_called, argument_refused, read, InTurn, none, more, refused, refused_later, AreJoined, ReadsCommands, ReadsPipe, pipe, bad_pipe, pipe_refused, ReadsLine, argument_of, options_of, pipes_of, command_of, of_generate_trees, of_context_free, to_analyse}
 use Rattle.gft_model.specs.Refusals.{placeless}
 
 -- what each gives in turn is determined where each by itself is
@@ -105,6 +105,9 @@ files_once (of_write_portable h) (files e) n = refl
 files_once h (bare l) n = absurd (n refl)
 files_once h of_empty n = elim h [ ]
 files_once h of_quit n = elim h [ ]
+files_once h of_generate_trees n = elim h [ ]
+files_once h of_context_free n = elim h [ ]
+files_once h (to_analyse w e) n = elim h [ ]
 files_once h (to_parse w e) n = elim h [ ]
 files_once h (to_complete w e) n = elim h [ ]
 files_once h (to_linearize s) n = elim h [ ]
@@ -121,6 +124,9 @@ nothing_written : {later : Bool} {verb : Verb} {text : List ℕ} {a : Argument} 
 nothing_written e (files d) = absurd (some_names d (ap words_in e))
 nothing_written e of_empty = refl
 nothing_written e of_quit = refl
+nothing_written e of_generate_trees = refl
+nothing_written e of_context_free = refl
+nothing_written e (to_analyse w f) = cc
 nothing_written e (to_parse w f) = cc
 nothing_written e (to_complete w f) = cc
 nothing_written {text = text} e (to_linearize s) =
@@ -138,11 +144,14 @@ argument_once (files d) e = sym (files_once d e (no_words d))
 argument_once d (files e) = files_once e d (no_words e)
 argument_once of_empty e = sym (nothing_written refl e)
 argument_once of_quit e = sym (nothing_written refl e)
+argument_once of_generate_trees e = sym (nothing_written refl e)
+argument_once of_context_free e = sym (nothing_written refl e)
 argument_once all e = sym (nothing_written refl e)
 argument_once (bare l) e = sym (nothing_written refl e)
 argument_once d all = nothing_written refl d
 argument_once d (bare l) = nothing_written refl d
 argument_once (to_parse v e) (to_parse w f) = ap (λ u. Given (a_text (words_in u))) (quoted_once v w (sym e ∙ f))
+argument_once (to_analyse v e) (to_analyse w f) = ap (λ u. Given (a_text (words_in u))) (quoted_once v w (sym e ∙ f))
 argument_once (to_complete v e) (to_complete w f) = ap (λ u. Given (a_text (words_in u))) (quoted_once v w (sym e ∙ f))
 argument_once (to_linearize s) (to_linearize t) = ap (λ u. Given (a_tree u)) (tree_once s t)
 argument_once (by_name n) (by_name m) = refl
@@ -181,8 +190,8 @@ command_once {later} {text} (read {argument} d b) (argument_refused e c) =
 command_once {later} {text} (read {verb} {argument} d b) (read {verb = w} {argument = second} e c) =
     let verbs = verb_once text d e in
     let arguments = argument_once (subst (λ v. IsArgument later v (argument_of text) argument) verbs b) c in
-    ap (λ v. Ok (record { verb = v; options = options_of text; argument = argument })) verbs
-    ∙ ap (λ a. Ok (record { verb = w; options = options_of text; argument = a })) arguments
+    ap (λ v. Ok (command_of v (options_of text) argument)) verbs
+    ∙ ap (λ a. Ok (command_of w (options_of text) a)) arguments
 
 -- a pipe
 joined_once : {c d : Command} {cs ds : List Command} {p q : Result (List Command) Refusal} → p ≡ Ok (c ∷ cs) → q ≡ Ok (d ∷ ds)

@@ -13,7 +13,7 @@ use Rattle.gft_tree.specs.Reading.{read_on, start}
 use Rattle.gft_tree.specs.Trees.{quoted}
 use Rattle.gft_tree.specs.declared.error.TreeErr.{TreeErr}
 use Rattle.gft_tree.proofs.AnswerLemmas.{is_read, is_refused}
-use Rattle.gft_model.specs.Commands.{Verb, Import, Empty, Quit, Parse, Linearize, Complete, AbstractInfo, WritePortable, Argument, Nothing, FileNames, Given, Name, Command, words_in, EndsIn, source_ending, portable_ending, AreFileNames, of_import, of_write_portable, IsArgument, files, of_empty, of_quit, to_parse, to_complete, to_linearize, by_name, all, bare, HasBadArgument, of_tree, other, called, ReadsCommand, not_called, argument_refused, read, InTurn, none, more, refused, refused_later, TakesUp, AreJoined, last, next, in_pipe, outside, place_behind, parts, ReadsCommands, ReadsPipe, pipe, bad_pipe, pipe_refused, pipes_of, ReadsLine, argument_of}
+use Rattle.gft_model.specs.Commands.{Verb, Import, Empty, Quit, Parse, Linearize, Complete, AbstractInfo, WritePortable, Argument, Nothing, FileNames, Given, Name, Command, words_in, EndsIn, source_ending, portable_ending, AreFileNames, of_import, of_write_portable, IsArgument, files, of_empty, of_quit, to_parse, to_complete, to_linearize, by_name, all, bare, HasBadArgument, of_tree, other, called, ReadsCommand, not_called, argument_refused, read, InTurn, none, more, refused, refused_later, TakesUp, AreJoined, last, next, in_pipe, outside, place_behind, parts, ReadsCommands, ReadsPipe, pipe, bad_pipe, pipe_refused, pipes_of, ReadsLine, argument_of, GenerateTrees, MorphoAnalyse, ContextFree, of_generate_trees, of_context_free, to_analyse}
 use Rattle.gft_model.specs.Commands as commands
 use Rattle.gft_model.proofs.CommandLaws.{inner, inner_of}
 
@@ -126,6 +126,27 @@ module _ (later : Bool) where
     never : {a : Argument} → ¬ IsArgument later Quit (c ∷ cs) a
     never (files d) = elim d [ ]
 
+  generate_trees_told : (text : List ℕ) → Told later GenerateTrees text
+  generate_trees_told [] = inl (Nothing, of_generate_trees)
+  generate_trees_told (c ∷ cs) = inr (_, other (λ e. cc) (λ a d. never d)) where
+    never : {a : Argument} → ¬ IsArgument later GenerateTrees (c ∷ cs) a
+    never (files d) = elim d [ ]
+
+  context_free_told : (text : List ℕ) → Told later ContextFree text
+  context_free_told [] = inl (Nothing, of_context_free)
+  context_free_told (c ∷ cs) = inr (_, other (λ e. cc) (λ a d. never d)) where
+    never : {a : Argument} → ¬ IsArgument later ContextFree (c ∷ cs) a
+    never (files d) = elim d [ ]
+
+  analyse_told : (text : List ℕ) → IsWritten text → Told later MorphoAnalyse text
+  analyse_told text l = ⊎_elim {C = Told later MorphoAnalyse text} (λ q. inl (_, to_analyse q.0 q.1))
+      (λ n. inr (_, other (λ e. cc) (λ a d. never l n d))) (quoted_or_not text) where
+        never : {text : List ℕ} → IsWritten text → ((w : List ℕ) → text ≢ quoted w) → {a : Argument}
+            → ¬ IsArgument later MorphoAnalyse text a
+        never l n (files d) = elim d [ ]
+        never l n (to_analyse w e) = n w e
+        never l n (bare m) = l m refl
+
   parse_told : (text : List ℕ) → IsWritten text → Told later Parse text
   parse_told text l = ⊎_elim {C = Told later Parse text} (λ q. inl (_, to_parse q.0 q.1))
       (λ n. inr (_, other (λ e. cc) (λ a d. never l n d))) (quoted_or_not text) where
@@ -170,6 +191,9 @@ module _ (later : Bool) where
   written_told Complete text l = complete_told text l
   written_told AbstractInfo text l = info_told text
   written_told WritePortable text l = write_told text l
+  written_told GenerateTrees text l = generate_trees_told text
+  written_told MorphoAnalyse text l = analyse_told text l
+  written_told ContextFree text l = context_free_told text
 
 told : (later : Bool) (verb : Verb) (text : List ℕ) → Told later verb text
 told true verb [] = inl (Nothing, bare refl)
@@ -223,25 +247,49 @@ takes_up_or_not : (v w : Verb) → Decided (TakesUp v w)
 takes_up_or_not Import w = inr (λ d. elim d [ ])
 takes_up_or_not Empty w = inr (λ d. elim d [ ])
 takes_up_or_not Quit w = inr (λ d. elim d [ ])
-takes_up_or_not Complete w = inr (λ d. elim d [ ])
-takes_up_or_not AbstractInfo w = inr (λ d. elim d [ ])
-takes_up_or_not WritePortable w = inr (λ d. elim d [ ])
-takes_up_or_not Parse Linearize = inl commands.trees
 takes_up_or_not Parse Import = inr (λ d. elim d [ ])
 takes_up_or_not Parse Empty = inr (λ d. elim d [ ])
 takes_up_or_not Parse Quit = inr (λ d. elim d [ ])
 takes_up_or_not Parse Parse = inr (λ d. elim d [ ])
+takes_up_or_not Parse Linearize = inl commands.trees
 takes_up_or_not Parse Complete = inr (λ d. elim d [ ])
 takes_up_or_not Parse AbstractInfo = inr (λ d. elim d [ ])
 takes_up_or_not Parse WritePortable = inr (λ d. elim d [ ])
-takes_up_or_not Linearize Parse = inl commands.texts
-takes_up_or_not Linearize Complete = inl commands.last_texts
+takes_up_or_not Parse GenerateTrees = inr (λ d. elim d [ ])
+takes_up_or_not Parse MorphoAnalyse = inr (λ d. elim d [ ])
+takes_up_or_not Parse ContextFree = inr (λ d. elim d [ ])
 takes_up_or_not Linearize Import = inr (λ d. elim d [ ])
 takes_up_or_not Linearize Empty = inr (λ d. elim d [ ])
 takes_up_or_not Linearize Quit = inr (λ d. elim d [ ])
+takes_up_or_not Linearize Parse = inl commands.texts
 takes_up_or_not Linearize Linearize = inr (λ d. elim d [ ])
+takes_up_or_not Linearize Complete = inl commands.last_texts
 takes_up_or_not Linearize AbstractInfo = inr (λ d. elim d [ ])
 takes_up_or_not Linearize WritePortable = inr (λ d. elim d [ ])
+takes_up_or_not Linearize GenerateTrees = inr (λ d. elim d [ ])
+takes_up_or_not Linearize MorphoAnalyse = inr (λ d. elim d [ ])
+takes_up_or_not Linearize ContextFree = inr (λ d. elim d [ ])
+takes_up_or_not Complete w = inr (λ d. elim d [ ])
+takes_up_or_not AbstractInfo w = inr (λ d. elim d [ ])
+takes_up_or_not WritePortable w = inr (λ d. elim d [ ])
+takes_up_or_not GenerateTrees Import = inr (λ d. elim d [ ])
+takes_up_or_not GenerateTrees Empty = inr (λ d. elim d [ ])
+takes_up_or_not GenerateTrees Quit = inr (λ d. elim d [ ])
+takes_up_or_not GenerateTrees Parse = inr (λ d. elim d [ ])
+takes_up_or_not GenerateTrees Linearize = inl commands.all_trees
+takes_up_or_not GenerateTrees Complete = inr (λ d. elim d [ ])
+takes_up_or_not GenerateTrees AbstractInfo = inr (λ d. elim d [ ])
+takes_up_or_not GenerateTrees WritePortable = inr (λ d. elim d [ ])
+takes_up_or_not GenerateTrees GenerateTrees = inr (λ d. elim d [ ])
+takes_up_or_not GenerateTrees MorphoAnalyse = inr (λ d. elim d [ ])
+takes_up_or_not GenerateTrees ContextFree = inr (λ d. elim d [ ])
+takes_up_or_not MorphoAnalyse w = inr (λ d. elim d [ ])
+takes_up_or_not ContextFree w = inr (λ d. elim d [ ])
+
+-- brackets are written or not
+no_bracket_or_not : (b : Bool) → Decided (b ≡ false)
+no_bracket_or_not true = inr (λ e. cc)
+no_bracket_or_not false = inl refl
 
 bare_or_not : (a : Argument) → Decided (a ≡ Nothing)
 bare_or_not Nothing = inl refl
@@ -251,22 +299,28 @@ bare_or_not (Name name) = inr (λ e. cc)
 
 joined_or_not : (c : Command) (cs : List Command) → Decided (AreJoined c cs)
 joined_or_not c [] = inl last
-joined_or_not c (d ∷ cs) = by_parts (takes_up_or_not c.verb d.verb) (bare_or_not d.argument) (joined_or_not d cs) where
-  takes : AreJoined c (d ∷ cs) → TakesUp c.verb d.verb
-  takes (next t b j) = t
+joined_or_not c (d ∷ cs) =
+    by_parts (takes_up_or_not c.verb d.verb) (no_bracket_or_not c.bracket) (bare_or_not d.argument) (joined_or_not d cs) where
+      takes : AreJoined c (d ∷ cs) → TakesUp c.verb d.verb
+      takes (next t n b j) = t
 
-  bare : AreJoined c (d ∷ cs) → d.argument ≡ Nothing
-  bare (next t b j) = b
+      plain : AreJoined c (d ∷ cs) → c.bracket ≡ false
+      plain (next t n b j) = n
 
-  others : AreJoined c (d ∷ cs) → AreJoined d cs
-  others (next t b j) = j
+      bare : AreJoined c (d ∷ cs) → d.argument ≡ Nothing
+      bare (next t n b j) = b
 
-  by_parts : Decided (TakesUp c.verb d.verb) → Decided (d.argument ≡ Nothing) → Decided (AreJoined d cs)
-      → Decided (AreJoined c (d ∷ cs))
-  by_parts (inl t) (inl b) (inl j) = inl (next t b j)
-  by_parts (inr n) b j = inr (λ h. n (takes h))
-  by_parts (inl t) (inr n) j = inr (λ h. n (bare h))
-  by_parts (inl t) (inl b) (inr n) = inr (λ h. n (others h))
+      others : AreJoined c (d ∷ cs) → AreJoined d cs
+      others (next t n b j) = j
+
+      by_parts : Decided (TakesUp c.verb d.verb) → Decided (c.bracket ≡ false) → Decided (d.argument ≡ Nothing)
+          → Decided (AreJoined d cs)
+          → Decided (AreJoined c (d ∷ cs))
+      by_parts (inl t) (inl p) (inl b) (inl j) = inl (next t p b j)
+      by_parts (inr n) p b j = inr (λ h. n (takes h))
+      by_parts (inl t) (inr n) b j = inr (λ h. n (plain h))
+      by_parts (inl t) (inl p) (inr n) j = inr (λ h. n (bare h))
+      by_parts (inl t) (inl p) (inl b) (inr n) = inr (λ h. n (others h))
 
 pipe_read : (text : List ℕ) → (r : Result (List Command) Refusal) × ReadsPipe text r
 pipe_read text = let all = in_turn (λ c. command_read c.0 c.1) (in_pipe (parts 124 outside text)) in by_result all.0 all.1 where

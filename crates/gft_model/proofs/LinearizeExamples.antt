@@ -17,7 +17,7 @@ use Rattle.gft_tree.specs.Lexemes as lexeme
 use Rattle.gft_tree.specs.Spelling.{Spells}
 use Rattle.gft_model.specs.Brackets.{Piece, erased}
 use Rattle.gft_model.specs.Commands as commands
-use Rattle.gft_model.specs.Commands.{Linearize, Given, a_tree, Command, ReadsPipe, to_linearize}
+use Rattle.gft_model.specs.Commands.{command_of, Linearize, Given, a_tree, Command, ReadsPipe, to_linearize}
 use Rattle.gft_model.specs.Listing.{Language}
 use Rattle.gft_model.specs.Listing.{IsBefore}
 use Rattle.gft_model.specs.Replies.{AreTexts, linearized, next, done}
@@ -87,7 +87,7 @@ dup_is_spelled = (
 )
 
 abbrev linearizes : Command
-linearizes = record { verb = Linearize; options = []; argument = Given (a_tree dup_a) }
+linearizes = command_of Linearize [] (Given (a_tree dup_a))
 
 line : ReadsPipe (codes "l Dup A") (Ok (linearizes ∷ []))
 line = commands.pipe (commands.more (commands.read refl (to_linearize dup_is_spelled))
@@ -103,7 +103,7 @@ language_count (Some g) = length g.languages
 lacks_nothing : (r : Refusal) → ¬ LacksFirst (Some loaded) (linearizes ∷ []) r
 lacks_nothing r (shell.here (shell.no_grammar e i m q)) = cc
 lacks_nothing r (shell.here (shell.no_language e i k)) = absurd (omega (arith, ap language_count e, ap length i))
-lacks_nothing r (shell.here (shell.no_such_language e i l f)) = cc
+lacks_nothing r (shell.here (shell.no_such_language e i k l f)) = cc
 lacks_nothing r (shell.here (shell.no_such_category e i l f)) = cc
 lacks_nothing r (shell.later n d) = elim d [ ]
 
@@ -114,7 +114,7 @@ unfolding chars lib.Utf8.encode
 answered files = (
   shell.read (omega arith) (codes "l Dup A", (refl, refl)) (line, tt)
       (shell.more (shell.runs lacks_nothing refl refl
-      (next _ (commands.more (linearized (texts ∷ []) refl (dup_a, solution) refl (are_texts, tt)) commands.none) done))
+      (next _ (commands.more (linearized (texts ∷ []) refl refl (dup_a, solution) refl (are_texts, tt)) commands.none) done))
       refl shell.none),
   refl,
 )

@@ -18,7 +18,7 @@ use Rattle.gft_model.proofs.SkeletonLaws.{skeleton}
 abbrev pub IsAsymmetric : {A : Type 0} → (A → A → Type 0) → Type 0
 IsAsymmetric {A} R = (x y : A) → R x y → R y x → ⊥
 
-before_once : IsAsymmetric IsBefore
+pub before_once : IsAsymmetric IsBefore
 before_once v w e f = let h = nat_list_cmp_total.antisymm v w in cc
 
 module _ {A : Type 0} (R : A → A → Type 0) where

@@ -26,7 +26,7 @@ lacks_nothing : {state : State} {verb : Verb} {argument : Argument} → (verb �
     → keys_of verb ≡ [] → (r : Refusal) → ¬ LacksFirst state (command verb [] argument ∷ []) r
 lacks_nothing needs keys r (here (no_grammar e i m q)) = needs i m q
 lacks_nothing needs keys r (here (no_language e i (k, b, f))) = absurd (omega (arith, b, ap length keys))
-lacks_nothing needs keys r (here (no_such_language e i l f)) = cc
+lacks_nothing needs keys r (here (no_such_language e i k l f)) = cc
 lacks_nothing needs keys r (here (no_such_category e i l f)) = cc
 lacks_nothing needs keys r (later n d) = elim d [ ]
 
@@ -68,7 +68,7 @@ language_first : LacksFirst tiny_state
     (command Parse (codes "-cat=B" ∷ codes "-lang=A" ∷ []) (Given (a_text [])) ∷ [])
     (placeless NoSuchLanguage (codes "A" ∷ []))
 unfolding lib.Utf8.encode
-language_first = here (no_such_language refl (λ e. cc) refl refl)
+language_first = here (no_such_language refl (λ e. cc) (0, omega arith, refl) refl refl)
 
 -- the line of its import, and of one without languages
 imported : grammar_line (record { abs = abs; languages = (codes "TE", of_file eng) ∷ [] }) ≡ codes "grammar T languages TE"
@@ -88,7 +88,7 @@ tiny_written : (files : Files) → Does (record { state = tiny_state; files = fi
     (replying (record { state = tiny_state; files = insert files (codes "T.gft") (file_of tiny) })
     (codes "wrote T.gft 133 bytes" ∷ []))
 unfolding digits
-tiny_written files = writes (tiny, loaded refl (file refl, tt), tiny_is_read) (omega arith)
+tiny_written files = writes (tiny, loaded refl (file refl, tt), tiny_is_read.grammar, tiny_is_read.bytes_are) (omega arith)
 
 -- where the save fails, the state stays and the reply names the file; here its content is as before
 tiny_not_saved : (files : Files) → Does (record { state = tiny_state; files = files }) WritePortable
@@ -99,7 +99,7 @@ tiny_not_saved : (files : Files) → Does (record { state = tiny_state; files = 
       ends = false;
       after = record { state = tiny_state; files = files };
     })
-tiny_not_saved files = save_failed (tiny, loaded refl (file refl, tt), tiny_is_read) (omega arith) (λ name other. refl)
+tiny_not_saved files = save_failed (tiny, loaded refl (file refl, tt), tiny_is_read.grammar, tiny_is_read.bytes_are) (omega arith) (λ name other. refl)
 
 -- a compiled grammar does not stand for the empty state
 tiny_is_not_empty : ¬ StandsFor (Some tiny) None

@@ -4,7 +4,7 @@ use Rattle.std.specs.Char.{is_whitespace}
 use Rattle.std.specs.Fmt.{decimal}
 use Rattle.std.specs.List.{AllZip, list_all, list_any, take_while, filter_map, position_or_len}
 use Rattle.std.specs.Map.{lookup}
-use Rattle.std.specs.Option.{option_map, option_map_or}
+use Rattle.std.specs.Option.{is_some, option_map, option_map_or}
 use Rattle.std.specs.Str.{skip_leading_whitespace, drop_trailing_whitespace}
 use Rattle.std.specs.Str.Parse.{digits_value}
 use Rattle.gft_core.specs.Names.{spells_name}
@@ -24,7 +24,7 @@ use Rattle.gft_tree.specs.Trees.{quoted}
 
 -- the commands
 pub data Verb : Type 0 where
-  Import Empty Quit Parse Linearize Complete AbstractInfo WritePortable : Verb
+  Import Empty Quit Parse Linearize Complete AbstractInfo WritePortable GenerateTrees MorphoAnalyse ContextFree : Verb
 
 -- what passes from one command of a pipe to the next: trees, texts as their words, and lines, which pass unchanged
 pub data Item : Type 0 where
@@ -39,10 +39,13 @@ pub data Argument : Type 0 where
   Given : Item → Argument
   Name : List ℕ → Argument
 
--- a command; its options are words of characters
+-- a command, with what its options say: a language, a category, a depth, and whether brackets are written
 pub record Command : Type 0 where
   pub verb : Verb
-  pub options : List (List ℕ)
+  pub lang : Option (List ℕ)
+  pub cat : Option (List ℕ)
+  pub depth : Option ℕ
+  pub bracket : Bool
   pub argument : Argument
 
 -- A line is characters here, and so are its parts.
@@ -97,7 +100,9 @@ verbs =
     (codes "import", Import) ∷ (codes "i", Import) ∷ (codes "empty", Empty) ∷ (codes "e", Empty)
     ∷ (codes "quit", Quit) ∷ (codes "q", Quit) ∷ (codes "parse", Parse) ∷ (codes "p", Parse)
     ∷ (codes "linearize", Linearize) ∷ (codes "l", Linearize) ∷ (codes "complete", Complete)
-    ∷ (codes "abstract_info", AbstractInfo) ∷ (codes "ai", AbstractInfo) ∷ (codes "write_portable", WritePortable) ∷ []
+    ∷ (codes "abstract_info", AbstractInfo) ∷ (codes "ai", AbstractInfo) ∷ (codes "write_portable", WritePortable)
+    ∷ (codes "generate_trees", GenerateTrees) ∷ (codes "gt", GenerateTrees) ∷ (codes "morpho_analyse", MorphoAnalyse)
+    ∷ (codes "ma", MorphoAnalyse) ∷ (codes "context_free", ContextFree) ∷ (codes "cf", ContextFree) ∷ []
 
 -- the command of a text, by its name
 abbrev pub verb_of : List ℕ → Option Verb
@@ -106,8 +111,11 @@ verb_of text = lookup (bytes_eq (name_of text)) verbs
 -- the options that a command takes, as they begin
 abbrev pub keys_of : Verb → List (List ℕ)
 keys_of Parse = codes "-lang=" ∷ codes "-cat=" ∷ codes "-depth=" ∷ []
-keys_of Linearize = codes "-lang=" ∷ codes "-cat=" ∷ []
+keys_of Linearize = codes "-lang=" ∷ codes "-cat=" ∷ codes "-bracket" ∷ []
 keys_of Complete = codes "-lang=" ∷ codes "-cat=" ∷ []
+keys_of GenerateTrees = codes "-cat=" ∷ codes "-depth=" ∷ []
+keys_of MorphoAnalyse = codes "-lang=" ∷ []
+keys_of ContextFree = codes "-lang=" ∷ codes "-cat=" ∷ []
 keys_of verb = []
 
 -- what stands after a beginning, where the text begins so
@@ -119,10 +127,15 @@ abbrev pub is_decimal_to : ℕ → List ℕ → Bool
 is_decimal_to most ds =
     are_digits ds && is_canonical ds && nat_le 1 (digits_value 10 ds) && nat_le (digits_value 10 ds) most
 
--- the word is the option with a good value: a depth is at most 64, a language and a category are identifiers
+-- a good value of an option: a depth is at most 64, -bracket has none, a language and a category are identifiers
+abbrev pub is_value : List ℕ → List ℕ → Bool
+is_value key value =
+    if bytes_eq key (codes "-depth=") then is_decimal_to 64 value
+    else if bytes_eq key (codes "-bracket") then bytes_eq value [] else spells_name value
+
+-- the word is the option with a good value
 abbrev pub is_option : List ℕ → List ℕ → Bool
-is_option word key = option_map_or (if bytes_eq key (codes "-depth=") then is_decimal_to 64 else spells_name)
-    (value_after key word) false
+is_option word key = option_map_or (is_value key) (value_after key word) false
 
 -- the first word that is none of the options that may still come; each comes once
 abbrev pub bad_option : List (List ℕ) → List (List ℕ) → Option (List ℕ)
@@ -130,9 +143,20 @@ bad_option keys [] = None
 bad_option keys (word ∷ words) =
     if list_any (is_option word) keys then bad_option (filter (λ key. not (is_option word key)) keys) words else Some word
 
--- the value of an option of a command, if it has the option
-abbrev pub option_of : List ℕ → Command → Option (List ℕ)
-option_of key c = option_map encode_utf8_all (slice_get (filter_map (value_after key) c.options) 0)
+-- the value of an option among words, if it is there
+abbrev pub option_of : List ℕ → List (List ℕ) → Option (List ℕ)
+option_of key options = option_map encode_utf8_all (slice_get (filter_map (value_after key) options) 0)
+
+-- the command with these options
+abbrev pub command_of : Verb → List (List ℕ) → Argument → Command
+command_of verb options argument = record {
+  verb = verb;
+  lang = option_of (codes "-lang=") options;
+  cat = option_of (codes "-cat=") options;
+  depth = option_map (digits_value 10) (option_of (codes "-depth=") options);
+  bracket = is_some (option_of (codes "-bracket") options);
+  argument = argument;
+}
 
 -- the words of characters
 abbrev pub words_in : List ℕ → List (List ℕ)
@@ -160,9 +184,13 @@ pub data IsArgument (later : Bool) : Verb → List ℕ → Argument → Type 0 w
   files : {verb text : _} → AreFileNames verb (words_in text) → IsArgument later verb text (FileNames (words_in text))
   of_empty : IsArgument later Empty [] Nothing
   of_quit : IsArgument later Quit [] Nothing
+  of_generate_trees : IsArgument later GenerateTrees [] Nothing
+  of_context_free : IsArgument later ContextFree [] Nothing
   to_parse : {text : _} (inner : List ℕ) → text ≡ quoted inner → IsArgument later Parse text (Given (a_text (words_in inner)))
   to_complete : {text : _} (inner : List ℕ) → text ≡ quoted inner →
       IsArgument later Complete text (Given (a_text (words_in inner)))
+  to_analyse : {text : _} (inner : List ℕ) → text ≡ quoted inner →
+      IsArgument later MorphoAnalyse text (Given (a_text (words_in inner)))
   to_linearize : {text t : _} → Spells text t → IsArgument later Linearize text (Given (a_tree t))
   by_name : {text : _} → spells_name text ≡ true → IsArgument later AbstractInfo text (Name (encode_utf8_all text))
   all : IsArgument later AbstractInfo [] Nothing
@@ -195,7 +223,7 @@ pub data ReadsCommand (later : Bool) (text : List ℕ) : Result Command Refusal 
   argument_refused : {verb r : _} → called text ≡ Ok verb → HasBadArgument later verb (argument_of text) r →
       ReadsCommand later text (Err r)
   read : {verb argument : _} → called text ≡ Ok verb → IsArgument later verb (argument_of text) argument →
-      ReadsCommand later text (Ok (record { verb = verb; options = options_of text; argument = argument }))
+      ReadsCommand later text (Ok (command_of verb (options_of text) argument))
 
 -- each gives what R says, in order, up to the first refusal
 pub data InTurn {A B : Type 0} (R : A → Result B Refusal → Type 0) : List A → Result (List B) Refusal → Type 0 where
@@ -216,13 +244,15 @@ ReadsCommands pipe = InTurn (λ c. ReadsCommand c.0 c.1) (in_pipe (parts 124 out
 -- a command takes up what the one before it in a pipe hands on: trees, or texts
 pub data TakesUp : Verb → Verb → Type 0 where
   trees : TakesUp Parse Linearize
+  all_trees : TakesUp GenerateTrees Linearize
   texts : TakesUp Linearize Parse
   last_texts : TakesUp Linearize Complete
 
--- so does each later command, without an argument of its own
+-- so does each later command, without an argument of its own; brackets are no texts, so they are handed on to none
 pub data AreJoined : Command → List Command → Type 0 where
   last : {c : _} → AreJoined c []
-  next : {c d : Command} {cs : _} → TakesUp c.verb d.verb → d.argument ≡ Nothing → AreJoined d cs → AreJoined c (d ∷ cs)
+  next : {c d : Command} {cs : _} → TakesUp c.verb d.verb → c.bracket ≡ false → d.argument ≡ Nothing → AreJoined d cs →
+      AreJoined c (d ∷ cs)
 
 -- what the text of a pipe is read as: its commands, or its first refusal
 pub data ReadsPipe (text : List ℕ) : Result (List Command) Refusal → Type 0 where

@@ -5,7 +5,7 @@ use Rattle.std.specs.Str.Parse.{digits_value}
 use Rattle.gft_io.specs.Lines.{lines_of}
 use Rattle.gft_io.specs.Outside.{Files}
 use Rattle.gft_rules.specs.declared.rule.Rule.TheVariants.{BadArgument}
-use Rattle.gft_model.specs.Commands.{Verb, Import, WritePortable, AreFileNames, is_decimal_to, begins_with_hyphen, FileNames}
+use Rattle.gft_model.specs.Commands.{command_of, Verb, Import, WritePortable, AreFileNames, is_decimal_to, begins_with_hyphen, FileNames}
 use Rattle.gft_model.specs.Refusals.{placeless}
 use Rattle.gft_model.specs.Shell.{Held, Answer, replying, refusing, InOrder, PipeSteps, Steps}
 
@@ -58,7 +58,7 @@ unbegun files = record { state = None; files = files }
 -- what a command with file names of the program's words answers; a name of another ending is refused
 pub data FilesStep (held : Held) (verb : Verb) (names : List (List ℕ)) : Answer → Type 0 where
   good_names : {a : _} → AreFileNames verb names →
-      PipeSteps held (Ok (record { verb = verb; options = []; argument = FileNames names } ∷ [])) a →
+      PipeSteps held (Ok (command_of verb [] (FileNames names) ∷ [])) a →
       FilesStep held verb names a
   bad_names : ¬ AreFileNames verb names → FilesStep held verb names (refusing held (placeless BadArgument []) [])
 

@@ -13,12 +13,12 @@ use Rattle.gft_rules.specs.declared.refusal.Refusal.{Refusal}
 use Rattle.gft_rules.specs.declared.rule.Rule.{Rule}
 use Rattle.gft_rules.specs.declared.rule.Rule.TheVariants.{NoGrammar, NoLanguage, NoSuchLanguage, NoSuchCategory, UnknownName, CannotRead, CannotWrite, PortableTooLong, LineTooLong, LineNotUtf8}
 use Rattle.gft_model.specs.AbstractInfo.{judgement_lines}
-use Rattle.gft_model.specs.Commands.{Verb, Import, Empty, Quit, AbstractInfo, WritePortable, Argument, Nothing, Item, Given, Name, Command, keys_of, option_of, ReadsLine, FileNames}
+use Rattle.gft_model.specs.Commands.{Verb, Import, Empty, Quit, AbstractInfo, WritePortable, Argument, Nothing, Item, Given, Name, Command, keys_of, ReadsLine, FileNames}
 use Rattle.gft_model.specs.Refusals.{placeless, IsFirst}
 use Rattle.gft_model.specs.Import.{BreaksImport, ComesTo}
 use Rattle.gft_model.specs.Loading.{HasFiles, most_portable_bytes}
-use Rattle.gft_model.specs.PortableFile.{Reads}
-use Rattle.gft_model.specs.Replies.{line_of, category_for, languages_for, Runs}
+use Rattle.gft_model.specs.PortableFile.{IsGrammar, file_of}
+use Rattle.gft_model.specs.Replies.{line_of, category_for, languages_for, Lists, RunsAll}
 use Rattle.gft_model.specs.Sessions.{IsImported, Joins, StandsFor}
 use Rattle.gft_model.specs.States.{Kept, Loaded, State}
 
@@ -59,10 +59,11 @@ pub data Lacks (state : State) (c : Command) : Refusal → Type 0 where
   no_grammar : state ≡ None → c.verb ≢ Import → c.verb ≢ Empty → c.verb ≢ Quit → Lacks state c (placeless NoGrammar [])
   no_language : {g : Loaded} → state ≡ Some g → g.languages ≡ [] → Contains (keys_of c.verb) (codes "-lang=") →
       Lacks state c (placeless NoLanguage [])
-  no_such_language : {g : Loaded} {name : _} → state ≡ Some g → g.languages ≢ [] →
-      option_of (codes "-lang=") c ≡ Some name → languages_for g c ≡ [] → Lacks state c (placeless NoSuchLanguage (name ∷ []))
-  no_such_category : {g : Loaded} {name : _} → state ≡ Some g → languages_for g c ≢ [] →
-      option_of (codes "-cat=") c ≡ Some name → category_for g c ≡ None → Lacks state c (placeless NoSuchCategory (name ∷ []))
+  no_such_language : {g : Loaded} {name : _} → state ≡ Some g → g.languages ≢ [] → Contains (keys_of c.verb) (codes "-lang=") →
+      c.lang ≡ Some name → languages_for g c ≡ [] → Lacks state c (placeless NoSuchLanguage (name ∷ []))
+  no_such_category : {g : Loaded} {name : _} → state ≡ Some g →
+      (Contains (keys_of c.verb) (codes "-lang=") → languages_for g c ≢ []) →
+      c.cat ≡ Some name → category_for g c ≡ None → Lacks state c (placeless NoSuchCategory (name ∷ []))
 
 -- the first that the commands lack, from left to right
 pub data LacksFirst (state : State) : List Command → Refusal → Type 0 where
@@ -89,9 +90,9 @@ pub data InOrder {A : Type 0} (R : Held → A → Answer → Type 0) : Held → 
   more : {held x xs others : _} {a : Answer} → R held x a → a.ends ≡ false → InOrder R a.after xs others →
       InOrder R held (x ∷ xs) (a ∷ others)
 
--- the bytes of the portable file of a state, which are read as the grammar that stands for it
+-- the bytes of the portable file of a state: that of the grammar that stands for it
 abbrev pub IsFileOf : State → List ℕ → Type 0
-IsFileOf state bytes = (g : Grammar) × StandsFor (Some g) state × Reads bytes g
+IsFileOf state bytes = (g : Grammar) × StandsFor (Some g) state × IsGrammar g.abs g.concretes × (file_of g ≡ bytes)
 
 -- what a command does that stands alone in its pipe; after a save that failed the content of its file is open
 pub data Does (held : Held) : Verb → Argument → Answer → Type 0 where
@@ -124,8 +125,13 @@ pub data PipeSteps (held : Held) : Result (List Command) Refusal → Answer → 
   lacking : {cs r : _} → LacksFirst held.state cs r → PipeSteps held (Ok cs) (refusing held r [])
   done : {c : Command} {a : _} → ((r : Refusal) → ¬ LacksFirst held.state (c ∷ []) r) → Does held c.verb c.argument a →
       PipeSteps held (Ok (c ∷ [])) a
+  lists : {c : Command} {cs g items result : _} → ((r : Refusal) → ¬ LacksFirst held.state (c ∷ cs) r) →
+      held.state ≡ Some g → c.argument ≡ Nothing → Lists g c (Ok items) → RunsAll g cs items result →
+      PipeSteps held (Ok (c ∷ cs)) (ran held result)
+  lists_none : {c : Command} {cs g s : _} → ((r : Refusal) → ¬ LacksFirst held.state (c ∷ cs) r) →
+      held.state ≡ Some g → c.argument ≡ Nothing → Lists g c (Err s) → PipeSteps held (Ok (c ∷ cs)) (refusing held s [])
   runs : {c : Command} {cs g item result : _} → ((r : Refusal) → ¬ LacksFirst held.state (c ∷ cs) r) →
-      held.state ≡ Some g → c.argument ≡ Given item → Runs g (c ∷ cs) (item ∷ []) result →
+      held.state ≡ Some g → c.argument ≡ Given item → RunsAll g (c ∷ cs) (item ∷ []) result →
       PipeSteps held (Ok (c ∷ cs)) (ran held result)
 
 -- what a session answers to a line of bytes
