@@ -123,6 +123,7 @@ compiles at r (CompileFaults.too_many_cells {T = T} c l h s) =
 compiles at r (CompileFaults.no_lin c f) = none_of c
 compiles at r (CompileFaults.too_many_cases c h s) =
     let one = sym (ap (λ x. length (cases_in language (codes "EEng") x)) (category_is c)) ∙ one_case in omega (arith, h, one)
+compiles at r (CompileFaults.too_many_nonterminals h) = omega (arith, h, one_case)
 compiles at r (CompileFaults.too_many_argument_cases c h s) = none_of c
 compiles at r (CompileFaults.is_stuck d f) = evaluates_none d
 compiles at r (CompileFaults.too_many_results d n h s) = evaluates_none d

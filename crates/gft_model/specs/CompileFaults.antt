@@ -11,7 +11,7 @@ use Rattle.gft_syntax.specs.declared.judgement.Keyword.{Keyword}
 use Rattle.gft_syntax.specs.declared.judgement.Keyword.TheVariants as K
 use Rattle.gft_syntax.specs.declared.reference.PlacedName.{PlacedName}
 use Rattle.gft_syntax.specs.declared.value.Value.{Value}
-use Rattle.gft_model.specs.ConcreteTypes.{cells_of_type, choices}
+use Rattle.gft_model.specs.ConcreteTypes.{cells_of_type, choices, sum_of}
 use Rattle.gft_model.specs.Compiled.{cases_in}
 use Rattle.gft_model.specs.Items.{items_of}
 use Rattle.gft_model.specs.Languages.{is_judgement, lin_type, arguments_of}
@@ -25,6 +25,10 @@ use Rattle.gft_model.specs.Modules.{placed_names, sort_of}
 -- the most cells of a linearization type
 abbrev pub most_cells : ℕ
 most_cells = 65536
+
+-- the most nonterminals of a language
+abbrev pub most_nonterminals : ℕ
+most_nonterminals = 1073741826
 
 -- the most cases of a category or of a function, and the most results of a function
 abbrev pub most : ℕ
@@ -63,9 +67,9 @@ pub data Evaluates (flat : Flat) (lang : List ℕ) : Keyword → List ℕ → Li
 
 -- functions come first, by name; then categories, by name, the lindef before the linref
 abbrev pub turn_of : Keyword → List ℕ → Moment
-turn_of K.Lindef C = 4 ∷ name_moment C ++ 0 ∷ []
-turn_of K.Linref C = 4 ∷ name_moment C ++ 1 ∷ []
-turn_of k f = 3 ∷ name_moment f
+turn_of K.Lindef C = 5 ∷ name_moment C ++ 0 ∷ []
+turn_of K.Linref C = 5 ∷ name_moment C ++ 1 ∷ []
+turn_of k f = 4 ∷ name_moment f
 
 -- the place of a name in its judgement of that keyword in a language
 pub data StandsAt (flat : Flat) (lang : List ℕ) (k : Keyword) (x : List ℕ) : Place → Type 0 where
@@ -85,6 +89,8 @@ pub data BreaksCompiling (flat : Flat) (lang : List ℕ) : Moment → Refusal �
   too_many_cases : {e : FlatJudgement} {p : _} → Contains flat.cats e → most < length (cases_in flat lang e.whole.name) →
       StandsAt flat lang K.Lincat e.whole.name p →
       BreaksCompiling flat lang (2 ∷ name_moment e.whole.name) (refusal R.TooManyCases p (lang ∷ e.whole.name ∷ []))
+  too_many_nonterminals : most_nonterminals < 2 + sum_of (map (λ (e : FlatJudgement). length (cases_in flat lang e.whole.name)) flat.cats) →
+      BreaksCompiling flat lang (3 ∷ []) (placeless R.TooManyNonterminals (lang ∷ []))
   too_many_argument_cases : {e : FlatJudgement} {p : _} → Contains flat.funs e →
       most < length (choices (argument_cases flat lang (arguments_of flat e.whole.name))) →
       StandsAt flat lang K.Lin e.whole.name p →
