@@ -40,7 +40,7 @@ module _ (files : Files) (lacks : get files no_gf ≡ None) where
   not_broken : {r : Refusal} → Loading.IsBroken files Loading.most_bytes (Loading.BreaksSource 0 (codes "No")) no_gf r → ⊥
   not_broken (Loading.broken b x) = not_there b.0
 
-  outcome : Loading.Outcome
+  outcome : Loading.LoadingEnd
   outcome = Loading.refused missing_file Loading.nothing_loaded
 
   none_loaded : (M : List ℕ) → Loading.IsLoaded Loading.nothing_loaded M → ⊥
@@ -52,7 +52,7 @@ module _ (files : Files) (lacks : get files no_gf ≡ None) where
       Loading.source_refused (codes "No", refl)
       (Loading.loaded_now (none_loaded (codes "No")) (omega arith) (Loading.unread (Loading.missing lacks)))
 
-  only_got : {o : Loading.Outcome} → Loading.Gets files [] [] Loading.nothing_loaded (codes "No") o → o ≡ outcome
+  only_got : {o : Loading.LoadingEnd} → Loading.Gets files [] [] Loading.nothing_loaded (codes "No") o → o ≡ outcome
   unfolding outcome
   only_got (Loading.loaded_before l) = absurd (none_loaded (codes "No") l)
   only_got (Loading.too_many n h) = absurd (omega (arith, h))
@@ -61,7 +61,7 @@ module _ (files : Files) (lacks : get files no_gf ≡ None) where
   only_got (Loading.loaded_now n h (Loading.needs_refused b x p d)) = absurd (not_there b.0)
   only_got (Loading.loaded_now n h (Loading.complete b x p d)) = absurd (not_there b.0)
 
-  only_outcome : {o : Loading.Outcome} → Loading.LoadsNamed files Loading.nothing_loaded (no_gf ∷ []) o → o ≡ outcome
+  only_outcome : {o : Loading.LoadingEnd} → Loading.LoadsNamed files Loading.nothing_loaded (no_gf ∷ []) o → o ≡ outcome
   unfolding outcome
   only_outcome (Loading.source_refused p d) = only_got d
   only_outcome (Loading.source_loaded p d k) = let e = only_got d in cc

@@ -17,7 +17,7 @@ use Rattle.gft_model.proofs.SourceLemmas.{one_list_of_tokens}
 use Rattle.gft_model.proofs.TokenLaws.{tokens_apart}
 use Rattle.gft_model.proofs.UnsolvedLaws.{last_once}
 use Rattle.gft_model.specs.Commands.{EndsIn, source_ending, portable_ending}
-use Rattle.gft_model.specs.Loading.{Loading, Outcome, loaded, refused, IsSource, BreaksSource, bad_characters, bad_slices, misnamed, BreaksPortable, at_field, is_invalid, HasBytes, IsUnread, missing, too_long, IsBroken, broken, Gets, loaded_before, too_many, loaded_now, Loads, unread, is_broken, needs_refused, complete, LoadsAll, no_more, waits_for_it, next_refused, next_loaded, LoadsNamed, none_named, source_refused, source_loaded, portable_refused, portable_read, HasFiles, with_file, file_in, flaw_text, after_all, after_refusal}
+use Rattle.gft_model.specs.Loading.{Loading, LoadingEnd, loaded, refused, IsSource, BreaksSource, bad_characters, bad_slices, misnamed, BreaksPortable, at_field, is_invalid, HasBytes, IsUnread, missing, too_long, IsBroken, broken, Gets, loaded_before, too_many, loaded_now, Loads, unread, is_broken, needs_refused, complete, LoadsAll, no_more, waits_for_it, next_refused, next_loaded, LoadsNamed, none_named, source_refused, source_loaded, portable_refused, portable_read, HasFiles, with_file, file_in, flaw_text, after_all, after_refusal}
 use Rattle.gft_model.specs.ModuleGrammar.{SpellsModule}
 use Rattle.gft_model.specs.Modules.{header_name, mentions}
 use Rattle.gft_model.specs.PortableFile
@@ -132,12 +132,12 @@ module _ {files : Files} where
   -- LOADING
 
   module _ {folder : List ℕ} where
-    needs : {waiting : List (List ℕ)} {s : Loading} {m k : Module} {o : Outcome} → m ≡ k
+    needs : {waiting : List (List ℕ)} {s : Loading} {m k : Module} {o : LoadingEnd} → m ≡ k
         → LoadsAll files folder waiting s (mentions k) o → LoadsAll files folder waiting s (mentions m) o
     needs {waiting} {s} {o} e d = subst (λ x. LoadsAll files folder waiting s (mentions x) o) (sym e) d
 
     mutual
-      got_once : {waiting : List (List ℕ)} {s : Loading} {M : List ℕ} {o p : Outcome} → Gets files folder waiting s M o
+      got_once : {waiting : List (List ℕ)} {s : Loading} {M : List ℕ} {o p : LoadingEnd} → Gets files folder waiting s M o
           → Gets files folder waiting s M p → o ≡ p
       got_once (loaded_before l) (loaded_before k) = refl
       got_once (loaded_before l) (too_many n h) = absurd (n l)
@@ -149,7 +149,7 @@ module _ {files : Files} where
       got_once (loaded_now n h d) (too_many m k) = absurd (omega (arith, h, k))
       got_once (loaded_now n h d) (loaded_now m k e) = loads_once d e
 
-      loads_once : {waiting : List (List ℕ)} {s : Loading} {M : List ℕ} {o p : Outcome} → Loads files folder waiting s M o
+      loads_once : {waiting : List (List ℕ)} {s : Loading} {M : List ℕ} {o p : LoadingEnd} → Loads files folder waiting s M o
           → Loads files folder waiting s M p → o ≡ p
       loads_once {s} (unread f) (unread g) = ap (λ r. refused r s) (unread_once f g)
       loads_once (unread f) (is_broken g) = absurd (unread_apart f g)
@@ -174,7 +174,7 @@ module _ {files : Files} where
           ap (λ z. loaded (record z { modules = z.modules ++ m ∷ [] })) loadings
           ∙ ap (λ z. loaded (record u { modules = u.modules ++ z ∷ [] })) same
 
-      all_once : {waiting : List (List ℕ)} {s : Loading} {ns : List PlacedName} {o p : Outcome}
+      all_once : {waiting : List (List ℕ)} {s : Loading} {ns : List PlacedName} {o p : LoadingEnd}
           → LoadsAll files folder waiting s ns o → LoadsAll files folder waiting s ns p → o ≡ p
       all_once no_more no_more = refl
       all_once (waits_for_it c) (waits_for_it d) = refl
@@ -200,7 +200,7 @@ endings_apart x y =
     absurd (omega (arith, h.1))
 
 module _ {files : Files} where
-  pub named_once : {s : Loading} {names : List (List ℕ)} {o p : Outcome} → LoadsNamed files s names o
+  pub named_once : {s : Loading} {names : List (List ℕ)} {o p : LoadingEnd} → LoadsNamed files s names o
       → LoadsNamed files s names p → o ≡ p
   named_once none_named none_named = refl
   named_once (source_refused e d) (source_refused f g) = got_once d g
@@ -224,7 +224,7 @@ module _ {files : Files} where
   named_once (portable_read e b x d) (portable_read f c y g) = named_once d g
 
 -- what is loaded in the end
-abbrev end_of : Outcome → Loading
+abbrev end_of : LoadingEnd → Loading
 end_of (loaded s) = s
 end_of (refused r s) = s
 

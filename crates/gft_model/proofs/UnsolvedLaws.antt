@@ -20,7 +20,7 @@ use Rattle.gft_rules.specs.declared.rule.Rule.TheVariants.{UnknownFun, WrongArit
 use Rattle.gft_model.specs.Refusals.{placeless}
 use Rattle.gft_model.specs.States.{category_name}
 use Rattle.gft_model.specs.Trees.{subtree_at, text_of}
-use Rattle.gft_model.specs.Unsolved.{layer_at, function_named, MustHave, argument, HasCategory, application, integer, text, hole, IsWrongAt, unknown_fun, wrong_arity, wrong_category, ComesFirst, IsBefore, within, left, IsReason, wrong, ill_typed}
+use Rattle.gft_model.specs.Unsolved.{layer_at, function_named, MustHave, argument, HasCategory, application, integer, text, hole, IsWrongAt, unknown_fun, wrong_arity, wrong_category, ComesFirst, IsSooner, within, left, IsReason, wrong, ill_typed}
 
 -- POSITIONS
 
@@ -57,8 +57,8 @@ comes_once p q k m x y = ⊎_elim {C = (p ≡ q) × (k ≡ m)}
 -- in post-order one of two positions is before the other, or they are the same
 data Compared (p q : List ℕ) : Type 0 where
   same : p ≡ q → Compared p q
-  first : IsBefore p q → Compared p q
-  later : IsBefore q p → Compared p q
+  first : IsSooner p q → Compared p q
+  later : IsSooner q p → Compared p q
 
 compared : (p q : List ℕ) → Compared p q
 compared [] [] = same refl
@@ -67,7 +67,7 @@ compared (i ∷ p) [] = first (within [] i p)
 compared (i ∷ p) (j ∷ q) = ⊎_elim {C = Compared (i ∷ p) (j ∷ q)} (λ l. first (left [] p q i j l))
     (λ g. ⊎_elim {C = Compared (i ∷ p) (j ∷ q)} (λ e. under (sym e) (compared p q)) (λ l. later (left [] q p j i l))
     (eq-or-lt_of_le g)) (cases_lt i j) where
-      deeper : (x y : List ℕ) → IsBefore x y → IsBefore (i ∷ x) (i ∷ y)
+      deeper : (x y : List ℕ) → IsSooner x y → IsSooner (i ∷ x) (i ∷ y)
       deeper x y (within v k w) = within (i ∷ v) k w
       deeper x y (left v w z k l h) = left (i ∷ v) w z k l h
 

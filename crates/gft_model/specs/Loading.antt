@@ -53,9 +53,9 @@ abbrev pub with_file : Loading → List ℕ → Loading
 with_file s file = record s { files = s.files ++ file ∷ [] }
 
 -- loading goes on, or is refused when these are loaded
-pub data Outcome : Type 0 where
-  loaded : Loading → Outcome
-  refused : Refusal → Loading → Outcome
+pub data LoadingEnd : Type 0 where
+  loaded : Loading → LoadingEnd
+  refused : Refusal → Loading → LoadingEnd
 
 -- the module is loaded
 abbrev pub IsLoaded : Loading → List ℕ → Type 0
@@ -102,7 +102,7 @@ module _ (files : Files) where
 
   mutual
     -- a module that is wanted: it is loaded already, there is no room for it, or it is loaded now
-    pub data Gets (folder : List ℕ) : List (List ℕ) → Loading → List ℕ → Outcome → Type 0 where
+    pub data Gets (folder : List ℕ) : List (List ℕ) → Loading → List ℕ → LoadingEnd → Type 0 where
       loaded_before : {waiting s M : _} → IsLoaded s M → Gets folder waiting s M (loaded s)
       too_many : {waiting M : _} {s : Loading} → ¬ (IsLoaded s M) → 256 ≤ length s.files →
           Gets folder waiting s M (refused (placeless R.TooManyModules []) s)
@@ -110,7 +110,7 @@ module _ (files : Files) where
           Gets folder waiting s M o
 
     -- a module is loaded from a folder, where others wait for it
-    pub data Loads (folder : List ℕ) : List (List ℕ) → Loading → List ℕ → Outcome → Type 0 where
+    pub data Loads (folder : List ℕ) : List (List ℕ) → Loading → List ℕ → LoadingEnd → Type 0 where
       unread : {waiting s M r : _} → IsUnread most_bytes (file_in folder M) r → Loads folder waiting s M (refused r s)
       is_broken : {waiting M r : _} {s : Loading} → IsBroken most_bytes (BreaksSource (length s.files) M) (file_in folder M) r →
           Loads folder waiting s M (refused r (with_file s (file_in folder M)))
@@ -124,7 +124,7 @@ module _ (files : Files) where
           Loads folder waiting s M (loaded (record t { modules = t.modules ++ m ∷ [] }))
 
     -- the modules that a header names, in their order
-    pub data LoadsAll (folder : List ℕ) : List (List ℕ) → Loading → List PlacedName → Outcome → Type 0 where
+    pub data LoadsAll (folder : List ℕ) : List (List ℕ) → Loading → List PlacedName → LoadingEnd → Type 0 where
       no_more : {waiting s : _} → LoadsAll folder waiting s [] (loaded s)
       waits_for_it : {waiting s ns : _} {n : PlacedName} → Contains waiting n.name →
           LoadsAll folder waiting s (n ∷ ns) (refused (at_name R.ModuleCycle n []) s)
@@ -134,7 +134,7 @@ module _ (files : Files) where
           Gets folder waiting s n.name (loaded t) → LoadsAll folder waiting t ns o → LoadsAll folder waiting s (n ∷ ns) o
 
   -- the named files, in order: the module of each source, and each portable file
-  pub data LoadsNamed : Loading → List (List ℕ) → Outcome → Type 0 where
+  pub data LoadsNamed : Loading → List (List ℕ) → LoadingEnd → Type 0 where
     none_named : {s : _} → LoadsNamed s [] (loaded s)
     source_refused : {s t file rest r : _} → EndsIn source_ending file →
         Gets (folder_of file) [] s (base_of file) (refused r t) → LoadsNamed s (file ∷ rest) (refused r t)

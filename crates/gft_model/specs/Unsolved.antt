@@ -57,9 +57,9 @@ abbrev pub ComesFirst : List ℕ → ℕ → List ℕ → ℕ → Type 0
 ComesFirst p kind q other = (slice_cmp nat_cmp p q ≡ Less) ⊎ ((p ≡ q) × (kind ≤ other))
 
 -- one position is before another in post-order: in one of its arguments, or further to the left
-pub data IsBefore : List ℕ → List ℕ → Type 0 where
-  within : (p : List ℕ) (i : ℕ) (r : List ℕ) → IsBefore (p ++ i ∷ r) p
-  left : (p r s : List ℕ) (i j : ℕ) → i < j → IsBefore (p ++ i ∷ r) (p ++ j ∷ s)
+pub data IsSooner : List ℕ → List ℕ → Type 0 where
+  within : (p : List ℕ) (i : ℕ) (r : List ℕ) → IsSooner (p ++ i ∷ r) p
+  left : (p r s : List ℕ) (i j : ℕ) → i < j → IsSooner (p ++ i ∷ r) (p ++ j ∷ s)
 
 abbrev pub IsSolvable : Abstract → Tree → Type 0
 IsSolvable a t = (solution : Tree) × IsSolution a t solution
@@ -69,7 +69,7 @@ pub data IsReason (a : Abstract) (t : Tree) : Refusal → Type 0 where
   wrong : {p kind r : _} → IsWrongAt a t p kind r →
       ((q : List ℕ) (other : ℕ) (s : Refusal) → IsWrongAt a t q other s → ComesFirst p kind q other) → IsReason a t r
   ill_typed : {p u : _} → ((q : List ℕ) (kind : ℕ) (s : Refusal) → ¬ IsWrongAt a t q kind s) → subtree_at t p ≡ Some u →
-      ¬ IsSolvable a u → ((q : List ℕ) (v : Tree) → IsBefore q p → subtree_at t q ≡ Some v → IsSolvable a v) →
+      ¬ IsSolvable a u → ((q : List ℕ) (v : Tree) → IsSooner q p → subtree_at t q ≡ Some v → IsSolvable a v) →
       IsReason a t (placeless IllTyped (text_of u ∷ []))
 
 -- the refusal of a tree without a solution
