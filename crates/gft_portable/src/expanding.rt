@@ -2,133 +2,82 @@
 use crate::fault::ReadErr;
 use crate::field::Reader;
 use crate::productions::{Filler, Language, Production};
+use crate::rows::{of_function, rows_of};
 use crate::sequences::shared;
 use gft_core::{NoMemory, Shared, Sym};
 use gft_pmcfg::{Concrete, Def, Prod, Ref};
 use sqlite_items::Items;
 use std::alloc::Global;
 
-/// A production of one function, groups written out. The order of rows is that of productions.
-#[derive(PartialEq, Eq, PartialOrd, Ord, Drop)]
-struct Row {
-    args: Vec<u32>,
-    result: u32,
-    seqs: Vec<u32>,
-}
-
-/// The rows that are alike but for the last argument, which is one of these.
-fn with_argument(
-    alloc: Global,
-    rows: &[Vec<u32>],
-    choices: &[u32],
-) -> Result<Vec<Vec<u32>>, NoMemory> {
-    let mut all = Vec::new(alloc);
-    for row in rows {
-        for choice in choices {
-            let mut longer = Vec::new(alloc);
-            longer.extend_from_slice(row.as_slice())?;
-            longer.push(*choice)?;
-            all.push(longer)?;
-        }
-    }
-    Ok(all)
-}
-
-/// All choices of members for the arguments.
-fn choices_of(alloc: Global, language: &Language, args: &[u32]) -> Result<Vec<Vec<u32>>, NoMemory> {
-    let mut rows = Vec::new(alloc);
-    rows.push(Vec::new(alloc))?;
-    for argument in args {
-        rows = match language.group(*argument) {
-            None => with_argument(alloc, rows.as_slice(), &[*argument])?,
-            Some(group) => with_argument(alloc, rows.as_slice(), language.groups.members(group))?,
-        };
-    }
-    Ok(rows)
-}
-
-/// Adds the rows of a production.
-fn add_rows(
-    alloc: Global,
-    language: &Language,
-    one: Production,
-    rows: &mut Vec<Row>,
-) -> Result<(), NoMemory> {
-    for args in choices_of(alloc, language, language.numbers(one.from, one.mid))? {
-        let mut seqs = Vec::new(alloc);
-        seqs.extend_from_slice(language.numbers(one.mid, one.to))?;
-        rows.push(Row {
-            args,
-            result: one.result,
-            seqs,
-        })?;
-    }
-    Ok(())
-}
-
-/// Whether the row at a place is that before it.
-fn is_repeated(rows: &[Row], place: usize) -> bool {
-    match place.checked_sub(1) {
-        None => false,
-        Some(before) => match (rows.get(before), rows.get(place)) {
-            (Some(one), Some(other)) => one == other,
-            (_, _) => false,
-        },
-    }
-}
-
-/// Adds the productions of the rows, which are those of a function, each once and in order.
-fn add_productions(
+/// A production with these arguments and this result, and the sequences of these numbers.
+fn prod_of(
     alloc: Global,
     made: &[Shared<Items<Sym>>],
     fun: u32,
-    rows: Vec<Row>,
-    prods: &mut Items<Prod>,
+    args: &[u32],
+    nonterminal: u32,
+    seqs: &[u32],
+) -> Result<Prod, NoMemory> {
+    Ok(Prod {
+        fun,
+        args: Items::from_slice(alloc, args)?,
+        result: nonterminal,
+        seqs: shared(alloc, made, seqs)?,
+    })
+}
+
+/// Whether a production has a group.
+fn has_group(language: &Language, one: Production) -> bool {
+    let first = language.cases.total;
+    language
+        .arguments(one)
+        .iter()
+        .any(|argument| *argument >= first)
+}
+
+/// Adds productions of one function, none of which has a group. They are in order.
+fn add_plain(
+    alloc: Global,
+    language: &Language,
+    made: &[Shared<Items<Sym>>],
+    of: &[Production],
+    prods: &mut Vec<Prod>,
 ) -> Result<(), NoMemory> {
-    let mut rows = rows;
-    rows.sort()?;
-    for place in 0..rows.len() {
-        if is_repeated(rows.as_slice(), place) {
-            continue;
-        }
-        if let Some(row) = rows.get(place) {
-            prods.push(Prod {
-                fun,
-                args: Items::from_slice(alloc, row.args.as_slice())?,
-                result: row.result,
-                seqs: shared(alloc, made, row.seqs.as_slice())?,
-            })?;
-        }
+    for one in of {
+        let (args, seqs) = (language.arguments(*one), language.sequence_numbers(*one));
+        prods.push(prod_of(alloc, made, one.fun, args, one.result, seqs)?)?;
     }
     Ok(())
 }
 
-/// The place after the last production of the function that has the one at this place.
-fn end_of(prods: &[Production], from: usize) -> usize {
-    match prods.get(from) {
-        None => from,
-        Some(first) => {
-            let fun = first.fun;
-            prods.partition_point(|one| one.fun <= fun)
-        }
+/// Adds productions of one function, groups written out, each once and in order.
+fn add_written_out(
+    alloc: Global,
+    language: &Language,
+    made: &[Shared<Items<Sym>>],
+    fun: u32,
+    of: &[Production],
+    prods: &mut Vec<Prod>,
+) -> Result<(), NoMemory> {
+    for row in rows_of(alloc, language, of)? {
+        let (args, seqs) = (row.args.as_slice(), row.seqs.as_slice());
+        prods.push(prod_of(alloc, made, fun, args, row.result, seqs)?)?;
     }
+    Ok(())
 }
 
-/// Adds the productions of one function, which stand from one place to another.
+/// Adds the productions of one function.
 fn add_function(
     alloc: Global,
     language: &Language,
     made: &[Shared<Items<Sym>>],
     of: &[Production],
-    prods: &mut Items<Prod>,
+    prods: &mut Vec<Prod>,
 ) -> Result<(), NoMemory> {
-    let mut rows = Vec::new(alloc);
-    let mut fun = 0;
-    for one in of {
-        fun = one.fun;
-        add_rows(alloc, language, *one, &mut rows)?;
+    match of.iter().find(|one| has_group(language, **one)) {
+        None => add_plain(alloc, language, made, of, prods),
+        Some(one) => add_written_out(alloc, language, made, one.fun, of, prods),
     }
-    add_productions(alloc, made, fun, rows, prods)
 }
 
 fn productions(
@@ -136,19 +85,18 @@ fn productions(
     language: &Language,
     made: &[Shared<Items<Sym>>],
 ) -> Result<Items<Prod>, NoMemory> {
-    let mut prods = Items::new(alloc);
     let all = language.prods.as_slice();
+    let mut prods = Vec::with_capacity(alloc, all.len())?;
     let mut from = 0usize;
     for _ in 0..all.len() {
-        if from >= all.len() {
+        let of = of_function(all, from);
+        if of.is_empty() {
             break;
         }
-        let to = end_of(all, from);
-        let of = all.get(from..to).unwrap_or(&[]);
         add_function(alloc, language, made, of, &mut prods)?;
-        from = to;
+        from = from.saturating_add(of.len());
     }
-    Ok(prods)
+    Ok(Items::from_vec(prods))
 }
 
 fn def(

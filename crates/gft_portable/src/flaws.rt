@@ -1,24 +1,18 @@
 //! What is wrong with a grammar whose fields are all in range and in order.
 use crate::cases::Version;
 use crate::fault::{Flaw, ReadErr};
-use crate::field::Reader;
-use crate::output::count;
 use crate::productions::{Language, Production};
 use crate::sharing::unshared;
 use crate::syntax::Syntax;
 use gft_abs::check_types;
 use gft_core::NoMemory;
 use gft_pmcfg::{Abstract, Concrete};
-use gft_reduce::reduce;
+use gft_reduce::{reduce, unproductive as left_out};
 use gft_rules::Rule;
 use std::alloc::Global;
 
-fn invalid(flaw: Flaw, at: usize) -> ReadErr {
-    ReadErr::Invalid(flaw, count(at))
-}
-
 /// Where the category or the function of this number begins.
-fn place_of(syntax: &Syntax, is_function: bool, number: u32) -> usize {
+fn place_of(syntax: &Syntax, is_function: bool, number: u32) -> u32 {
     let entry = if is_function {
         syntax.funs.get(number as usize)
     } else {
@@ -40,7 +34,7 @@ pub fn check_abstract(alloc: Global, syntax: &Syntax, abs: &Abstract) -> Result<
             } else {
                 Flaw::IndexType
             };
-            Err(invalid(flaw, place_of(syntax, is_function, number)))
+            Err(ReadErr::Invalid(flaw, place_of(syntax, is_function, number)))
         }
     }
 }
@@ -90,7 +84,7 @@ fn reached_groups(
 }
 
 fn is_productive(language: &Language, reached: &[bool], whole: &[bool], one: Production) -> bool {
-    for argument in language.numbers(one.from, one.mid) {
+    for argument in language.arguments(one) {
         let has_run = match language.group(*argument) {
             None => is_set(reached, *argument),
             Some(group) => is_set(whole, group),
@@ -102,13 +96,17 @@ fn is_productive(language: &Language, reached: &[bool], whole: &[bool], one: Pro
     true
 }
 
-/// Where the first production stands that some choice of members leaves without a run.
+/// Where the first production stands that some choice of members leaves without a run. Most files have
+/// none, which is seen without a copy of the productions.
 fn unproductive(
     alloc: Global,
     abs: &Abstract,
     language: &Language,
     c: &Concrete,
-) -> Result<Option<usize>, NoMemory> {
+) -> Result<Option<u32>, NoMemory> {
+    if left_out(alloc, c, abs)?.is_none() {
+        return Ok(None);
+    }
     let reached = reached(alloc, abs, c, language.cases.total)?;
     let whole = reached_groups(alloc, language, reached.as_slice())?;
     for one in language.prods.as_slice() {
@@ -120,38 +118,31 @@ fn unproductive(
 }
 
 /// What is not used, and what is not shared.
-fn check_sharing(
-    alloc: Global,
-    reader: &Reader,
-    language: &Language,
-    c: &Concrete,
-) -> Result<(), ReadErr> {
+fn check_sharing(alloc: Global, language: &Language, c: &Concrete) -> Result<(), ReadErr> {
     if let Some(at) = language.sequences.unused() {
-        return Err(invalid(Flaw::Unused, at));
+        return Err(ReadErr::Invalid(Flaw::Unused, at));
     }
     if let Some(at) = language.groups.unused() {
-        return Err(invalid(Flaw::Unused, at));
+        return Err(ReadErr::Invalid(Flaw::Unused, at));
     }
-    let made = language.sequences.made(alloc, reader)?;
-    match unshared(alloc, language, made.as_slice(), c)? {
+    match unshared(alloc, language, c)? {
         None => Ok(()),
-        Some(at) => Err(invalid(Flaw::Unshared, at)),
+        Some(at) => Err(ReadErr::Invalid(Flaw::Unshared, at)),
     }
 }
 
 /// The first flaw of a language.
 pub fn check_concrete(
     alloc: Global,
-    reader: &Reader,
     abs: &Abstract,
     language: &Language,
     c: &Concrete,
 ) -> Result<(), ReadErr> {
     if language.version == Version::Two {
-        check_sharing(alloc, reader, language, c)?;
+        check_sharing(alloc, language, c)?;
     }
     match unproductive(alloc, abs, language, c)? {
         None => Ok(()),
-        Some(at) => Err(invalid(Flaw::Unproductive, at)),
+        Some(at) => Err(ReadErr::Invalid(Flaw::Unproductive, at)),
     }
 }

@@ -3,7 +3,7 @@ use crate::cases::Cases;
 use crate::fault::ReadErr;
 use crate::field::{Reader, bad};
 use crate::items::Ascending;
-use crate::output::count;
+use crate::output::{count, part_of};
 use crate::terms::push;
 use gft_rules::Rule;
 use std::alloc::Global;
@@ -12,10 +12,10 @@ use std::alloc::Global;
 /// and whether something names it.
 #[derive(Clone, Copy)]
 struct Group {
-    at: usize,
+    at: u32,
     cat: u32,
-    from: usize,
-    to: usize,
+    from: u32,
+    to: u32,
     is_used: bool,
 }
 
@@ -44,11 +44,7 @@ impl Groups {
     pub fn members(&self, number: u32) -> &[u32] {
         match self.all.get(number as usize) {
             None => &[],
-            Some(group) => self
-                .members
-                .as_slice()
-                .get(group.from..group.to)
-                .unwrap_or(&[]),
+            Some(group) => part_of(self.members.as_slice(), group.from, group.to),
         }
     }
 
@@ -68,7 +64,7 @@ impl Groups {
     }
 
     /// Where the first group stands that nothing names.
-    pub fn unused(&self) -> Option<usize> {
+    pub fn unused(&self) -> Option<u32> {
         for group in self.all.as_slice() {
             if !group.is_used {
                 return Some(group.at);
@@ -102,7 +98,7 @@ impl Groups {
     }
 
     fn read(&mut self, reader: &mut Reader, cases: &Cases) -> Result<(), ReadErr> {
-        let (at, from) = (reader.at(), self.members.len());
+        let (at, from) = (reader.at(), count(self.members.len()));
         let many = reader.number()?;
         if many < 2 {
             return Err(bad(Rule::BadNumber, at));
@@ -115,7 +111,7 @@ impl Groups {
             at,
             cat,
             from,
-            to: self.members.len(),
+            to: count(self.members.len()),
             is_used: false,
         };
         push(&mut self.all, group)

@@ -16,7 +16,7 @@ impl Ascending {
     }
 
     /// One more item, read whole, which begins at a place and is compared by a part of the file.
-    pub fn add(&mut self, reader: &Reader, at: usize, by: Span) -> Result<(), ReadErr> {
+    pub fn add(&mut self, reader: &Reader, at: u32, by: Span) -> Result<(), ReadErr> {
         if let Some(last) = self.last {
             if !reader.is_lower(last, by) {
                 return Err(bad(Rule::BadOrder, at));
@@ -27,7 +27,7 @@ impl Ascending {
     }
 
     /// One more item, which is compared by all of its bytes.
-    pub fn add_whole(&mut self, reader: &Reader, at: usize) -> Result<(), ReadErr> {
+    pub fn add_whole(&mut self, reader: &Reader, at: u32) -> Result<(), ReadErr> {
         let by = Span {
             from: at,
             to: reader.at(),

@@ -1,6 +1,7 @@
 //! The portable file of a grammar: one grammar has one file, and any other bytes are at fault.
 #![tactic(auto)]
 
+mod alike;
 mod cases;
 mod expanding;
 mod fault;
@@ -12,9 +13,11 @@ mod output;
 mod productions;
 mod reading;
 mod reserved;
+mod rows;
 mod sequences;
 mod sharing;
 mod signature;
+mod spelling;
 mod syntax;
 mod table;
 mod terms;

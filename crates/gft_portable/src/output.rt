@@ -14,6 +14,11 @@ pub fn count(len: usize) -> u32 {
     u32::try_from(len).unwrap_or(u32::MAX)
 }
 
+/// What stands from one place to another. It takes no memory.
+pub fn part_of<T>(all: &[T], from: u32, to: u32) -> &[T] {
+    all.get(from as usize..to as usize).unwrap_or(&[])
+}
+
 impl Output {
     /// No byte yet.
     pub fn new(alloc: Global) -> Output {

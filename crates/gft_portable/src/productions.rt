@@ -4,6 +4,7 @@ use crate::fault::ReadErr;
 use crate::field::{Reader, Span, bad};
 use crate::groups::Groups;
 use crate::items::Ascending;
+use crate::output::{count, part_of};
 use crate::sequences::Sequences;
 use crate::syntax::{Entry, Syntax};
 use crate::terms::push;
@@ -17,20 +18,20 @@ const MOST_PRODUCTIONS: u64 = 8_388_608;
 /// arguments and then those of its sequences stand among those of all.
 #[derive(Clone, Copy)]
 pub struct Production {
-    pub at: usize,
+    pub at: u32,
     pub fun: u32,
     pub result: u32,
-    pub from: usize,
-    pub mid: usize,
-    pub to: usize,
+    pub from: u32,
+    pub mid: u32,
+    pub to: u32,
 }
 
 /// A def or a ref: its nonterminal, and where the numbers of its sequences stand.
 #[derive(Clone, Copy)]
 pub struct Filler {
     pub nonterminal: u32,
-    pub from: usize,
-    pub to: usize,
+    pub from: u32,
+    pub to: u32,
 }
 
 /// What was read of a language.
@@ -51,8 +52,18 @@ pub struct Language {
 
 impl Language {
     /// The numbers that stand from one place to another.
-    pub fn numbers(&self, from: usize, to: usize) -> &[u32] {
-        self.numbers.as_slice().get(from..to).unwrap_or(&[])
+    pub fn numbers(&self, from: u32, to: u32) -> &[u32] {
+        part_of(self.numbers.as_slice(), from, to)
+    }
+
+    /// The arguments of a production: nonterminals, and groups by their number after those.
+    pub fn arguments(&self, one: Production) -> &[u32] {
+        self.numbers(one.from, one.mid)
+    }
+
+    /// The numbers of the sequences of a production.
+    pub fn sequence_numbers(&self, one: Production) -> &[u32] {
+        self.numbers(one.mid, one.to)
     }
 
     /// The group that an argument's number is of, if it is of one.
@@ -121,7 +132,7 @@ impl Language {
     }
 
     /// How many productions the arguments stand for.
-    fn choices_of(&self, from: usize, to: usize) -> u64 {
+    fn choices_of(&self, from: u32, to: u32) -> u64 {
         let mut many = 1u64;
         for argument in self.numbers(from, to) {
             if let Some(group) = self.group(*argument) {
@@ -132,7 +143,7 @@ impl Language {
         many
     }
 
-    fn count_choices(&mut self, at: usize, from: usize, to: usize) -> Result<(), ReadErr> {
+    fn count_choices(&mut self, at: u32, from: u32, to: u32) -> Result<(), ReadErr> {
         self.choices = self.choices.saturating_add(self.choices_of(from, to));
         if self.version == Version::Two && self.choices > MOST_PRODUCTIONS {
             return Err(bad(Rule::BadNumber, at));
@@ -146,20 +157,20 @@ impl Language {
         reader: &mut Reader,
         syntax: &Syntax,
     ) -> Result<(), ReadErr> {
-        let (at, from) = (reader.at(), self.numbers.len());
+        let (at, from) = (reader.at(), count(self.numbers.len()));
         let fun = reader.below(syntax.function_count())?;
         let Some(entry) = syntax.funs.get(fun as usize) else {
             return Err(bad(Rule::BadNumber, at)); // the function is below their number
         };
         let mut dims = Vec::new(alloc);
         self.read_arguments(reader, syntax, *entry, &mut dims)?;
-        let mid = self.numbers.len();
+        let mid = count(self.numbers.len());
         let cat = syntax.cat_of(entry.to.saturating_sub(1));
         let result = self.cases.read_of(reader, cat)?;
         let many = self.cases.dimension(cat);
         self.read_sequences(alloc, reader, dims.as_slice(), many)?;
         self.count_choices(at, from, mid)?;
-        let to = self.numbers.len();
+        let to = count(self.numbers.len());
         let production = Production {
             at,
             fun,
@@ -192,10 +203,10 @@ impl Language {
         let many = reader.number()?;
         let mut order = Ascending::new();
         for _ in 0..many {
-            let (at, from) = (reader.at(), self.numbers.len());
+            let (at, from) = (reader.at(), count(self.numbers.len()));
             let (nonterminal, dim) = self.cases.read_listed(reader)?;
             self.read_sequences(alloc, reader, &[1], dim)?;
-            let to = self.numbers.len();
+            let to = count(self.numbers.len());
             let filler = Filler {
                 nonterminal,
                 from,
@@ -212,10 +223,10 @@ impl Language {
         let many = reader.number()?;
         let mut order = Ascending::new();
         for _ in 0..many {
-            let (at, from) = (reader.at(), self.numbers.len());
+            let (at, from) = (reader.at(), count(self.numbers.len()));
             let (nonterminal, dim) = self.cases.read_listed(reader)?;
             self.read_sequence(alloc, reader, &[dim])?;
-            let to = self.numbers.len();
+            let to = count(self.numbers.len());
             let filler = Filler {
                 nonterminal,
                 from,

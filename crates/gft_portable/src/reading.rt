@@ -40,7 +40,7 @@ fn read_languages(
     let mut all = Vec::new(alloc);
     for _ in 0..many {
         let at = reader.at();
-        let name = reader.name(alloc)?;
+        let name = reader.name()?;
         let language = read_language(alloc, reader, version, syntax, name)?;
         order.add(reader, at, name)?;
         push(&mut all, language)?;
@@ -58,7 +58,7 @@ fn concretes_of(
     let mut all = Items::new(alloc);
     for language in languages {
         let concrete = concrete_of(alloc, reader, language)?;
-        check_concrete(alloc, reader, abs, language, &concrete)?;
+        check_concrete(alloc, abs, language, &concrete)?;
         all.push(concrete)?;
     }
     Ok(all)
@@ -71,7 +71,7 @@ pub fn read(alloc: Global, bytes: &Vec<u8>) -> Result<Grammar, ReadErr> {
     let version = read_version(&mut reader)?;
     let syntax = read_syntax(alloc, &mut reader)?;
     let languages = read_languages(alloc, &mut reader, version, &syntax)?;
-    if reader.at() < reader.len() {
+    if reader.has_more() {
         return Err(bad(Rule::TooLong, reader.at()));
     }
     let abs = abstract_of(alloc, &reader, &syntax)?;

@@ -2,7 +2,7 @@
 use crate::fault::ReadErr;
 use crate::field::{Reader, Span, bad};
 use crate::items::Ascending;
-use crate::output::count;
+use crate::output::{count, part_of};
 use crate::terms::push;
 use gft_core::{NoMemory, Shared, Sym};
 use gft_rules::Rule;
@@ -20,11 +20,11 @@ enum Symbol {
 /// all, and whether something names it.
 #[derive(Clone, Copy)]
 struct Sequence {
-    at: usize,
-    from: usize,
-    to: usize,
-    needs_from: usize,
-    needs_to: usize,
+    at: u32,
+    from: u32,
+    to: u32,
+    needs_from: u32,
+    needs_to: u32,
     is_used: bool,
 }
 
@@ -58,20 +58,18 @@ impl Sequences {
         count(self.all.len())
     }
 
-    /// One more symbol. Where dimensions of arguments are given the component is one of them.
-    fn read_symbol(
-        &mut self,
-        alloc: Global,
-        reader: &mut Reader,
-        dims: Option<&[u32]>,
-    ) -> Result<(), ReadErr> {
+    /// One more symbol; true where it is a component. Where dimensions of arguments are given it is one of
+    /// those.
+    fn read_symbol(&mut self, reader: &mut Reader, dims: Option<&[u32]>) -> Result<bool, ReadErr> {
         let at = reader.at();
-        let symbol = match reader.tag()? {
-            0 => Symbol::Tok(reader.token(alloc)?),
+        let tag = reader.tag()?;
+        let symbol = match tag {
+            0 => Symbol::Tok(reader.token()?),
             1 => read_component(reader, dims)?,
             _ => return Err(bad(Rule::BadTag, at)),
         };
-        push(&mut self.symbols, symbol)
+        push(&mut self.symbols, symbol)?;
+        Ok(tag == 1)
     }
 
     /// Reads one more sequence, and gives its number.
@@ -81,14 +79,16 @@ impl Sequences {
         reader: &mut Reader,
         dims: Option<&[u32]>,
     ) -> Result<u32, ReadErr> {
-        let (at, from) = (reader.at(), self.symbols.len());
+        let (at, from) = (reader.at(), count(self.symbols.len()));
         let many = reader.number()?;
+        let mut has_components = false;
         for _ in 0..many {
-            self.read_symbol(alloc, reader, dims)?;
+            let is_component = self.read_symbol(reader, dims)?;
+            has_components = has_components || is_component;
         }
-        let to = self.symbols.len();
-        let needs_from = self.needs.len();
-        if dims.is_none() {
+        let to = count(self.symbols.len());
+        let needs_from = count(self.needs.len());
+        if has_components && dims.is_none() {
             self.add_needs(alloc, from, to)?;
         }
         let number = self.len();
@@ -97,7 +97,7 @@ impl Sequences {
             from,
             to,
             needs_from,
-            needs_to: self.needs.len(),
+            needs_to: count(self.needs.len()),
             is_used: false,
         };
         push(&mut self.all, sequence)?;
@@ -105,9 +105,9 @@ impl Sequences {
     }
 
     /// What the symbols ask for, argument by argument.
-    fn add_needs(&mut self, alloc: Global, from: usize, to: usize) -> Result<(), ReadErr> {
+    fn add_needs(&mut self, alloc: Global, from: u32, to: u32) -> Result<(), ReadErr> {
         let mut needs = Vec::new(alloc);
-        for symbol in self.symbols.as_slice().get(from..to).unwrap_or(&[]) {
+        for symbol in part_of(self.symbols.as_slice(), from, to) {
             if let Symbol::Arg(argument, component) = *symbol {
                 push(
                     &mut needs,
@@ -147,11 +147,8 @@ impl Sequences {
             return Err(bad(Rule::BadNumber, at));
         };
         sequence.is_used = true;
-        let needs = self
-            .needs
-            .as_slice()
-            .get(sequence.needs_from..sequence.needs_to);
-        for need in needs.unwrap_or(&[]) {
+        let needs = self.needs.as_slice();
+        for need in part_of(needs, sequence.needs_from, sequence.needs_to) {
             if !has_component(dims, *need) {
                 return Err(bad(Rule::BadNumber, at));
             }
@@ -160,7 +157,7 @@ impl Sequences {
     }
 
     /// Where the first sequence stands that nothing names.
-    pub fn unused(&self) -> Option<usize> {
+    pub fn unused(&self) -> Option<u32> {
         for sequence in self.all.as_slice() {
             if !sequence.is_used {
                 return Some(sequence.at);
@@ -171,10 +168,10 @@ impl Sequences {
 
     /// The sequences themselves, by number.
     pub fn made(&self, alloc: Global, reader: &Reader) -> Result<Vec<Shared<Items<Sym>>>, ReadErr> {
-        let mut made = Vec::new(alloc);
+        let mut made = Vec::with_capacity(alloc, self.all.len())?;
         for sequence in self.all.as_slice() {
-            let symbols = self.symbols.as_slice().get(sequence.from..sequence.to);
-            let items = symbols_of(alloc, reader, symbols.unwrap_or(&[]))?;
+            let symbols = part_of(self.symbols.as_slice(), sequence.from, sequence.to);
+            let items = symbols_of(alloc, reader, symbols)?;
             push(&mut made, Shared::new(alloc, items)?)?;
         }
         Ok(made)
@@ -217,11 +214,11 @@ fn symbol_of(alloc: Global, reader: &Reader, symbol: Symbol) -> Result<Sym, Read
 }
 
 fn symbols_of(alloc: Global, reader: &Reader, symbols: &[Symbol]) -> Result<Items<Sym>, ReadErr> {
-    let mut items = Items::new(alloc);
+    let mut items = Vec::with_capacity(alloc, symbols.len())?;
     for symbol in symbols {
-        items.push(symbol_of(alloc, reader, *symbol)?)?;
+        push(&mut items, symbol_of(alloc, reader, *symbol)?)?;
     }
-    Ok(items)
+    Ok(Items::from_vec(items))
 }
 
 /// The sequences of these numbers.
@@ -230,11 +227,11 @@ pub fn shared(
     made: &[Shared<Items<Sym>>],
     numbers: &[u32],
 ) -> Result<Items<Shared<Items<Sym>>>, NoMemory> {
-    let mut all = Items::new(alloc);
+    let mut all = Vec::with_capacity(alloc, numbers.len())?;
     for number in numbers {
         if let Some(seq) = made.get(*number as usize) {
             all.push(seq.share()?)?;
         }
     }
-    Ok(all)
+    Ok(Items::from_vec(all))
 }

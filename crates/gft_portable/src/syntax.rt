@@ -14,18 +14,18 @@ const MOST_CATEGORIES: u32 = 16_384;
 #[derive(Clone, Copy)]
 pub struct Type {
     pub cat: u32,
-    pub from: usize,
-    pub to: usize,
+    pub from: u32,
+    pub to: u32,
 }
 
 /// A category or a function: where it begins in the file, its name, and where its types stand among all of
 /// them. The last type of a function is that of its result.
 #[derive(Clone, Copy)]
 pub struct Entry {
-    pub at: usize,
+    pub at: u32,
     pub name: Span,
-    pub from: usize,
-    pub to: usize,
+    pub from: u32,
+    pub to: u32,
 }
 
 /// What was read of the abstract part.
@@ -52,13 +52,13 @@ impl Syntax {
     ) -> Result<(), ReadErr> {
         let cat = reader.below(self.categories.saturating_add(2))?;
         let many = reader.number()?;
-        let from = self.nodes.len();
+        let from = count(self.nodes.len());
         let bounds = Bounds {
             functions: self.functions,
             variables,
         };
         read_terms(alloc, reader, bounds, many, &mut self.nodes)?;
-        let to = self.nodes.len();
+        let to = count(self.nodes.len());
         push(&mut self.types, Type { cat, from, to })
     }
 
@@ -73,24 +73,24 @@ impl Syntax {
 
     /// A category. `Int` and `String` are not listed.
     fn read_category(&mut self, alloc: Global, reader: &mut Reader) -> Result<Span, ReadErr> {
-        let (at, from) = (reader.at(), self.types.len());
-        let name = reader.name(alloc)?;
+        let (at, from) = (reader.at(), count(self.types.len()));
+        let name = reader.name()?;
         if is_literal(reader.part(name)) {
             return Err(bad(Rule::BadText, name.from));
         }
         self.read_types(alloc, reader)?;
-        let to = self.types.len();
+        let to = count(self.types.len());
         let entry = Entry { at, name, from, to };
         push(&mut self.cats, entry)?;
         Ok(name)
     }
 
     fn read_function(&mut self, alloc: Global, reader: &mut Reader) -> Result<Span, ReadErr> {
-        let (at, from) = (reader.at(), self.types.len());
-        let name = reader.name(alloc)?;
+        let (at, from) = (reader.at(), count(self.types.len()));
+        let name = reader.name()?;
         let arguments = self.read_types(alloc, reader)?;
         self.read_type(alloc, reader, arguments)?;
-        let to = self.types.len();
+        let to = count(self.types.len());
         let entry = Entry { at, name, from, to };
         push(&mut self.funs, entry)?;
         Ok(name)
@@ -113,8 +113,8 @@ impl Syntax {
     }
 
     /// The category of a type, by the type's place. 0 where there is no such type.
-    pub fn cat_of(&self, place: usize) -> u32 {
-        match self.types.get(place) {
+    pub fn cat_of(&self, place: u32) -> u32 {
+        match self.types.get(place as usize) {
             None => 0, // entries have the places of types
             Some(one) => one.cat,
         }
@@ -148,7 +148,7 @@ fn read_counts(reader: &mut Reader) -> Result<(u32, u32), ReadErr> {
 
 /// Reads the abstract part.
 pub fn read_syntax(alloc: Global, reader: &mut Reader) -> Result<Syntax, ReadErr> {
-    let name = reader.name(alloc)?;
+    let name = reader.name()?;
     let (start, categories) = read_counts(reader)?;
     let functions = reader.number()?;
     let mut syntax = Syntax {

@@ -8,12 +8,12 @@ use std::alloc::Global;
 const HIGHEST: usize = 201;
 
 /// A term, its parts right after it: the number of a function with that of its parts, a variable by the
-/// number of its argument from 1, an integer, or a text.
+/// number of its argument from 1, an integer by where its bytes stand, or a text.
 #[derive(Clone, Copy)]
 pub enum Node {
     App(u32, u32),
     Hole(u32),
-    Int(u128),
+    Int(Span),
     Str(Span),
 }
 
@@ -37,12 +37,7 @@ pub struct Bounds {
 }
 
 /// One term without its parts, at a level from 1.
-fn read_node(
-    alloc: Global,
-    reader: &mut Reader,
-    bounds: Bounds,
-    level: usize,
-) -> Result<Node, ReadErr> {
+fn read_node(reader: &mut Reader, bounds: Bounds, level: usize) -> Result<Node, ReadErr> {
     let at = reader.at();
     let tag = reader.tag()?;
     if level > HIGHEST {
@@ -55,7 +50,7 @@ fn read_node(
         }
         1 => Ok(Node::Hole(reader.below(bounds.variables)?.saturating_add(1))),
         2 => Ok(Node::Int(reader.integer()?)),
-        3 => Ok(Node::Str(reader.token(alloc)?)),
+        3 => Ok(Node::Str(reader.token()?)),
         _ => Err(bad(Rule::BadTag, at)),
     }
 }
@@ -69,6 +64,9 @@ pub fn read_terms(
     many: u32,
     nodes: &mut Vec<Node>,
 ) -> Result<(), ReadErr> {
+    if many == 0 {
+        return Ok(());
+    }
     let mut open = Vec::new(alloc);
     push(&mut open, many)?;
     // each turn takes a byte or leaves a level
@@ -78,7 +76,7 @@ pub fn read_terms(
         };
         if left > 0 {
             push(&mut open, left - 1)?;
-            let node = read_node(alloc, reader, bounds, open.len())?;
+            let node = read_node(reader, bounds, open.len())?;
             push(nodes, node)?;
             push(&mut open, node.parts())?;
         }

@@ -42,7 +42,7 @@ fn tree(
             Ok(Tree::App(name, parts(alloc, pile, many)?))
         }
         Node::Hole(variable) => Ok(Tree::Hole(variable)),
-        Node::Int(number) => Ok(Tree::Int(number)),
+        Node::Int(span) => Ok(Tree::Int(reader.integer_at(span))),
         Node::Str(span) => Ok(Tree::Str(reader.token_at(alloc, span)?)),
     }
 }
@@ -52,7 +52,7 @@ fn type_of(alloc: Global, reader: &Reader, syntax: &Syntax, one: Type) -> Result
     let mut pile = Vec::new(alloc);
     for back in 0..one.to.saturating_sub(one.from) {
         let place = one.to.saturating_sub(back).saturating_sub(1);
-        if let Some(node) = syntax.nodes.get(place) {
+        if let Some(node) = syntax.nodes.get(place as usize) {
             let made = tree(alloc, reader, syntax, *node, &mut pile)?;
             push(&mut pile, made)?;
         }
@@ -70,12 +70,12 @@ fn types_of(
     alloc: Global,
     reader: &Reader,
     syntax: &Syntax,
-    from: usize,
-    to: usize,
+    from: u32,
+    to: u32,
 ) -> Result<Items<AType>, ReadErr> {
     let mut all = Items::new(alloc);
     for place in from..to {
-        if let Some(one) = syntax.types.get(place) {
+        if let Some(one) = syntax.types.get(place as usize) {
             all.push(type_of(alloc, reader, syntax, *one)?)?;
         }
     }
@@ -84,7 +84,7 @@ fn types_of(
 
 fn fun_of(alloc: Global, reader: &Reader, syntax: &Syntax, entry: Entry) -> Result<Fun, ReadErr> {
     let last = entry.to.saturating_sub(1);
-    let result = match syntax.types.get(last) {
+    let result = match syntax.types.get(last as usize) {
         None => AType {
             cat: 0,
             args: Items::new(alloc),
@@ -127,14 +127,14 @@ fn cats_of(alloc: Global, reader: &Reader, syntax: &Syntax) -> Result<Items<Cat>
 /// The abstract syntax.
 pub fn abstract_of(alloc: Global, reader: &Reader, syntax: &Syntax) -> Result<Abstract, ReadErr> {
     let cats = cats_of(alloc, reader, syntax)?;
-    let mut funs = Items::new(alloc);
+    let mut funs = Vec::with_capacity(alloc, syntax.funs.len())?;
     for entry in syntax.funs.as_slice() {
-        funs.push(fun_of(alloc, reader, syntax, *entry)?)?;
+        push(&mut funs, fun_of(alloc, reader, syntax, *entry)?)?;
     }
     Ok(Abstract {
         name: reader.name_at(alloc, syntax.name)?,
         start: syntax.start,
         cats,
-        funs,
+        funs: Items::from_vec(funs),
     })
 }
