@@ -15,7 +15,8 @@ use crate::held::Held;
 use crate::item::{Item, push};
 use crate::settings::Settings;
 use gft_command::{Argument, Verb};
-use gft_core::{Token, Tree};
+use gft_core::{Token, Tree, words};
+use gft_lister::Form;
 use gft_rules::Stop;
 use std::alloc::Global;
 
@@ -39,6 +40,19 @@ fn answer_tree(
     }
 }
 
+/// What a command answers to a tree that was listed.
+fn answer_form(
+    given: Given<'_>,
+    settings: Settings,
+    form: &Form,
+    items: &mut Vec<Item>,
+) -> Result<(), Stop> {
+    match settings.verb {
+        Verb::Linearize => linearize::linearize_form(given, settings, form, items),
+        _ => Ok(()), // excluded by reading: no other command takes trees
+    }
+}
+
 /// What a command answers to the words of a text.
 fn answer_words(
     given: Given<'_>,
@@ -52,6 +66,17 @@ fn answer_words(
         Verb::MorphoAnalyse => morpho_analyse::morpho_analyse(given, settings, words, items),
         _ => Ok(()), // excluded by reading: no other command takes texts
     }
+}
+
+/// What a command answers to a text.
+fn answer_text(
+    given: Given<'_>,
+    settings: Settings,
+    text: &str,
+    items: &mut Vec<Item>,
+) -> Result<(), Stop> {
+    let words = words(given.alloc, text)?;
+    answer_words(given, settings, &words, items)
 }
 
 /// What a command answers without an argument.
@@ -89,7 +114,8 @@ pub fn answer_item(
 ) -> Result<(), Stop> {
     match item {
         Item::Tree(tree) => answer_tree(given, settings, tree, items),
-        Item::Words(words) => answer_words(given, settings, words, items),
+        Item::Listed(entry) => answer_form(given, settings, &entry.form, items),
+        Item::Said(text) => answer_text(given, settings, text.as_str(), items),
         Item::Line(text) => Ok(push(items, Item::Line(text.copy(given.alloc)?))?),
     }
 }

@@ -1,23 +1,47 @@
 //! The grammar that a session holds, with the tables of its languages.
 use gft_coerce::coerce;
 use gft_core::{NoMemory, Shared};
+use gft_lin::Index;
 use gft_lister::Tables;
-use gft_pmcfg::{Coerced, Grammar};
+use gft_pmcfg::{Cat, Coerced, Grammar};
 use std::alloc::Global;
 
-/// What the commands of a language work over, made once: its shared productions, and the tables of
-/// parsing.
+/// What the commands of a language work over, made once: its shared productions with their index, and
+/// the tables of parsing.
 #[derive(Drop)]
 pub struct Language {
     pub coerced: Coerced,
+    pub index: Index,
     pub tables: Tables,
 }
 
-/// A grammar, and for each of its languages, by its number, what commands work over.
+/// A grammar, whether none of its categories takes indices, and for each of its languages, by its
+/// number, what commands work over.
 #[derive(Drop)]
 pub struct Held {
     pub grammar: Grammar,
+    pub is_plain: bool,
     pub languages: Vec<Shared<Language>>,
+}
+
+/// Whether no category takes indices.
+fn is_plain(cats: &[Cat]) -> bool {
+    'categories: for cat in cats {
+        if !cat.context.is_empty() {
+            return false;
+        }
+    }
+    true
+}
+
+/// A grammar with what is made of its languages.
+pub fn held_of(grammar: Grammar, languages: Vec<Shared<Language>>) -> Held {
+    let is_plain = is_plain(grammar.abs.cats.as_slice());
+    Held {
+        grammar,
+        is_plain,
+        languages,
+    }
 }
 
 impl Held {
@@ -49,7 +73,13 @@ pub fn add_language(
         return Ok(()); // excluded likewise
     };
     let coerced = coerce(alloc, concrete)?;
-    languages.push(Shared::new(alloc, Language { coerced, tables })?)?;
+    let index = Index::new(alloc, &grammar.abs, &coerced)?;
+    let language = Language {
+        coerced,
+        index,
+        tables,
+    };
+    languages.push(Shared::new(alloc, language)?)?;
     Ok(())
 }
 
@@ -61,5 +91,5 @@ pub fn held_alone(alloc: Global, grammar: Grammar) -> Result<Held, NoMemory> {
         add_language(alloc, &grammar, lang, &mut languages)?;
         lang = lang.saturating_add(1);
     }
-    Ok(Held { grammar, languages })
+    Ok(held_of(grammar, languages))
 }

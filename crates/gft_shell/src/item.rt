@@ -1,25 +1,16 @@
 //! What passes between the commands of a pipe.
-use gft_core::{NoMemory, Text, Token, Tree, join};
-use gft_tree::print;
+use gft_core::{NoMemory, Text, Tree};
+use gft_lister::Entry;
 use std::alloc::Global;
 
-/// What a command hands on: a tree, the words of a text, or a line that passes unchanged.
+/// What a command hands on: a tree, a tree that was listed, what is said of one, with single spaces
+/// between its words, or a line that passes unchanged.
 #[derive(Drop)]
 pub enum Item {
     Tree(Tree),
-    Words(Vec<Token>),
+    Listed(Entry),
+    Said(Text),
     Line(Text),
-}
-
-impl Item {
-    /// Its line in a reply.
-    pub fn text(&self, alloc: Global) -> Result<Text, NoMemory> {
-        match self {
-            Item::Tree(tree) => print(alloc, tree),
-            Item::Words(words) => join(alloc, words),
-            Item::Line(text) => text.copy(alloc),
-        }
-    }
 }
 
 /// Adds an item.

@@ -1,5 +1,5 @@
 //! What a session holds after an import: the languages of equal abstract syntax stay.
-use crate::held::{Held, Language, add_language, held_alone};
+use crate::held::{Held, Language, add_language, held_alone, held_of};
 use gft_core::{NoMemory, Shared};
 use gft_load::is_same_abstract;
 use gft_pmcfg::{Concrete, Grammar};
@@ -137,7 +137,7 @@ fn joined_grammar(
 fn held_beside(alloc: Global, before: &Held, grammar: Grammar) -> Result<Held, NoMemory> {
     let (grammar, kept) = joined_grammar(alloc, before, grammar)?;
     let languages = languages_of(alloc, before, &grammar, kept.as_slice())?;
-    Ok(Held { grammar, languages })
+    Ok(held_of(grammar, languages))
 }
 
 /// What is held after an import of the grammar: with the languages that were held where the

@@ -13,6 +13,7 @@ use gft_command::{Argument, Command, Verb};
 use gft_core::{NoMemory, Text};
 use gft_io::Store;
 use gft_rules::Stop;
+use gft_tree::print;
 use std::alloc::Global;
 
 fn add(all: &mut Vec<Settings>, settings: Settings) -> Result<(), NoMemory> {
@@ -61,11 +62,20 @@ fn items_of(
     Ok(items)
 }
 
+/// Adds the line of an item.
+fn add_item(alloc: Global, reply: &mut Reply, item: &Item) -> Result<(), NoMemory> {
+    match item {
+        Item::Tree(tree) => reply.add(print(alloc, tree)?.as_str()),
+        Item::Listed(entry) => reply.add(entry.text.as_str()),
+        Item::Said(text) => reply.add(text.as_str()),
+        Item::Line(text) => reply.add(text.as_str()),
+    }
+}
+
 /// Adds the lines of items.
 fn add_items(alloc: Global, reply: &mut Reply, items: &[Item]) -> Result<(), NoMemory> {
     'items: for item in items {
-        let text = item.text(alloc)?;
-        reply.add(text.as_str())?;
+        add_item(alloc, reply, item)?;
     }
     Ok(())
 }

@@ -5,8 +5,9 @@ use crate::item::{Item, push};
 use crate::refusing::stop_at;
 use crate::settings::Settings;
 use gft_abs::{SolveErr, solve};
-use gft_core::{Name, NoMemory, Tree};
-use gft_lin::{bracketed_of, strings_of};
+use gft_core::{Name, NoMemory, Text, Tree};
+use gft_lin::{bracketed_of, functions_of, texts_of, texts_of_functions};
+use gft_lister::{Form, tree_of};
 use gft_rules::{Rule, Stop};
 use gft_tree::print;
 use std::alloc::Global;
@@ -45,23 +46,62 @@ fn check_tree(given: Given<'_>, cat: u32, tree: &Tree) -> Result<(), Stop> {
     }
 }
 
+/// What is linearized: a tree that has a type, by its functions, each after its arguments, unless it has
+/// literals or holes.
+#[derive(Clone, Copy)]
+enum Typed<'a> {
+    Functions(&'a [u32]),
+    Tree(&'a Tree),
+}
+
+/// The texts of the strings of a tree in one language.
+fn texts_of_tree(
+    given: Given<'_>,
+    language: &Language,
+    cat: u32,
+    tree: &Tree,
+) -> Result<Vec<Text>, NoMemory> {
+    let abs = &given.held.grammar.abs;
+    texts_of(given.alloc, &language.coerced, abs, cat, tree)
+}
+
+/// The texts of the strings of the tree with these functions in one language.
+fn texts_of_typed(
+    given: Given<'_>,
+    language: &Language,
+    cat: u32,
+    functions: &[u32],
+) -> Result<Vec<Text>, NoMemory> {
+    let (alloc, coerced) = (given.alloc, &language.coerced);
+    match texts_of_functions(alloc, coerced, &language.index, functions)? {
+        Some(texts) => Ok(texts),
+        None => {
+            let tree = tree_of(alloc, &given.held.grammar.abs, functions)?;
+            texts_of_tree(given, language, cat, &tree)
+        }
+    }
+}
+
 /// Adds the strings of a tree in one language.
 fn push_strings(
     given: Given<'_>,
     language: &Language,
     cat: u32,
-    tree: &Tree,
+    typed: Typed<'_>,
     items: &mut Vec<Item>,
 ) -> Result<(), NoMemory> {
-    let abs = &given.held.grammar.abs;
-    'strings: for words in strings_of(given.alloc, &language.coerced, abs, cat, tree)? {
-        push(items, Item::Words(words))?;
+    let texts = match typed {
+        Typed::Functions(functions) => texts_of_typed(given, language, cat, functions)?,
+        Typed::Tree(tree) => texts_of_tree(given, language, cat, tree)?,
+    };
+    'strings: for text in texts {
+        push(items, Item::Said(text))?;
     }
     Ok(())
 }
 
 /// Adds the strings of a tree in one language, with brackets that show its parts.
-fn push_bracketed(
+fn push_bracketed_tree(
     given: Given<'_>,
     language: &Language,
     cat: u32,
@@ -75,20 +115,36 @@ fn push_bracketed(
     Ok(())
 }
 
+fn push_bracketed(
+    given: Given<'_>,
+    language: &Language,
+    cat: u32,
+    typed: Typed<'_>,
+    items: &mut Vec<Item>,
+) -> Result<(), NoMemory> {
+    match typed {
+        Typed::Functions(functions) => {
+            let tree = tree_of(given.alloc, &given.held.grammar.abs, functions)?;
+            push_bracketed_tree(given, language, cat, &tree, items)
+        }
+        Typed::Tree(tree) => push_bracketed_tree(given, language, cat, tree, items),
+    }
+}
+
 /// Adds what is said of a tree in one language.
 fn push_language(
     given: Given<'_>,
     settings: Settings,
     lang: u32,
-    tree: &Tree,
+    typed: Typed<'_>,
     items: &mut Vec<Item>,
 ) -> Result<(), NoMemory> {
     match given.held.language(lang) {
         None => Ok(()), // excluded by the settings: the language is there
         Some(language) if settings.bracket => {
-            push_bracketed(given, language, settings.cat, tree, items)
+            push_bracketed(given, language, settings.cat, typed, items)
         }
-        Some(language) => push_strings(given, language, settings.cat, tree, items),
+        Some(language) => push_strings(given, language, settings.cat, typed, items),
     }
 }
 
@@ -96,29 +152,69 @@ fn push_language(
 fn push_all(
     given: Given<'_>,
     settings: Settings,
-    tree: &Tree,
+    typed: Typed<'_>,
     items: &mut Vec<Item>,
 ) -> Result<(), NoMemory> {
     let mut lang = 0u32;
     'languages: for _ in 0..given.held.languages.len() {
-        push_language(given, settings, lang, tree, items)?;
+        push_language(given, settings, lang, typed, items)?;
         lang = lang.saturating_add(1);
     }
     Ok(())
 }
 
+/// Adds what is said of a tree, for each language in turn or for the one that is given.
+fn push_typed(
+    given: Given<'_>,
+    settings: Settings,
+    typed: Typed<'_>,
+    items: &mut Vec<Item>,
+) -> Result<(), NoMemory> {
+    match settings.lang {
+        Some(lang) => push_language(given, settings, lang, typed, items),
+        None => push_all(given, settings, typed, items),
+    }
+}
+
 /// Adds the strings of the tree, for each language in turn or for the one that is given; or the
-/// first reason why the tree has no type.
+/// first reason why the tree has no type. Where no category takes indices, a tree whose functions
+/// stand in place has a type.
 pub fn linearize(
     given: Given<'_>,
     settings: Settings,
     tree: &Tree,
     items: &mut Vec<Item>,
 ) -> Result<(), Stop> {
-    check_tree(given, settings.cat, tree)?;
-    let added = match settings.lang {
-        Some(lang) => push_language(given, settings, lang, tree, items),
-        None => push_all(given, settings, tree, items),
+    let functions = functions_of(given.alloc, &given.held.grammar.abs, tree)?;
+    if !given.held.is_plain || functions.is_none() {
+        check_tree(given, settings.cat, tree)?;
+    }
+    let added = match &functions {
+        Some(functions) => {
+            push_typed(
+                given,
+                settings,
+                Typed::Functions(functions.as_slice()),
+                items,
+            )
+        }
+        None => push_typed(given, settings, Typed::Tree(tree), items),
     };
     Ok(added?)
+}
+
+/// Adds the strings of a tree that was listed, which has a type.
+pub fn linearize_form(
+    given: Given<'_>,
+    settings: Settings,
+    form: &Form,
+    items: &mut Vec<Item>,
+) -> Result<(), Stop> {
+    match form {
+        Form::Functions(functions) => {
+            let typed = Typed::Functions(functions.as_slice());
+            Ok(push_typed(given, settings, typed, items)?)
+        }
+        Form::Tree(tree) => linearize(given, settings, tree, items),
+    }
 }
