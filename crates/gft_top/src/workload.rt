@@ -79,67 +79,30 @@ fn push_sentence(text: &mut Vec<u8>, number: u64) -> Result<(), NoMemory> {
     Ok(())
 }
 
-/// The command line that parses a sentence.
-fn parse_line(alloc: Global, sentence: &[u8]) -> Result<Vec<u8>, NoMemory> {
+/// The command line that parses a sentence and linearizes what it is parsed to.
+fn line_of(alloc: Global, sentence: &[u8]) -> Result<Vec<u8>, NoMemory> {
     let mut line = Vec::from_slice(alloc, b"p -depth=42 \"")?;
     line.extend_from_slice(sentence)?;
-    line.push(b'"')?;
+    line.extend_from_slice(b"\" | l")?;
     Ok(line)
 }
 
-/// The command line that linearizes a tree.
-fn linearize_line(alloc: Global, tree: &[u8]) -> Result<Vec<u8>, NoMemory> {
-    let mut line = Vec::from_slice(alloc, b"l ")?;
-    line.extend_from_slice(tree)?;
-    Ok(line)
-}
-
-/// The reply of the session to a line.
-fn reply(
-    alloc: Global,
-    session: &mut Session,
-    store: &mut MemStore,
-    line: &Vec<u8>,
-) -> Result<Vec<u8>, NoMemory> {
-    Ok(session.step(alloc, line, store)?.reply)
-}
-
-/// Whether the tree says just the sentence, which ends in a newline.
-fn says(
-    alloc: Global,
-    session: &mut Session,
-    store: &mut MemStore,
-    tree: &[u8],
-    sentence: &[u8],
-) -> Result<bool, NoMemory> {
-    let line = linearize_line(alloc, tree)?;
-    Ok(reply(alloc, session, store, &line)?.as_slice() == sentence)
-}
-
-/// Counts the trees that stand on the lines of a reply.
-fn count_trees(
-    alloc: Global,
-    session: &mut Session,
-    store: &mut MemStore,
-    trees: &[u8],
-    sentence: &[u8],
-    counts: &mut Counts,
-) -> Result<(), NoMemory> {
-    let mut rest = trees;
-    for _ in 0..trees.len() {
+/// Counts the trees by what they say: each has one string, which is a line of the reply.
+fn count_trees(reply: &[u8], sentence: &[u8], counts: &mut Counts) {
+    let mut rest = reply;
+    for _ in 0..reply.len() {
         let Some(end) = rest.iter().position(|byte| *byte == b'\n') else {
             break;
         };
         counts.trees = counts.trees.saturating_add(1);
-        if says(alloc, session, store, rest.split_at(end).0, sentence)? {
+        if rest.split_at(end).0 == sentence {
             counts.same = counts.same.saturating_add(1);
         }
         rest = rest.split_at(end + 1).1;
     }
-    Ok(())
 }
 
-/// Parses a sentence, and counts its trees.
+/// Parses a sentence, linearizes its trees, and counts them.
 fn count_sentence(
     alloc: Global,
     session: &mut Session,
@@ -149,10 +112,10 @@ fn count_sentence(
 ) -> Result<(), NoMemory> {
     let mut sentence = Vec::new(alloc);
     push_sentence(&mut sentence, number)?;
-    let line = parse_line(alloc, &sentence)?;
-    let trees = reply(alloc, session, store, &line)?;
-    sentence.push(b'\n')?;
-    count_trees(alloc, session, store, &trees, &sentence, counts)
+    let line = line_of(alloc, sentence.as_slice())?;
+    let reply = session.step(alloc, &line, store)?.reply;
+    count_trees(reply.as_slice(), sentence.as_slice(), counts);
+    Ok(())
 }
 
 /// The four lines of what was counted.
