@@ -27,13 +27,6 @@ struct Faults<'a> {
     store: &'a [u64],
 }
 
-/// No call fails.
-const NONE: Faults<'static> = Faults {
-    source: &[],
-    sink: &[],
-    store: &[],
-};
-
 /// How a session over these words behind the program's name and over the three files ends, and what
 /// it has written.
 fn session(
@@ -63,17 +56,6 @@ fn session(
     let status = run(alloc, &words, &mut source, &mut sink, &mut store);
     let written = std::str::from_utf8(sink.bytes())?;
     Ok((status, String::from_str(alloc, written)?))
-}
-
-#[test]
-fn the_first_session_is_answered(rt: HostRuntime) -> Result<(), Fail> {
-    let (status, written) = session(rt.alloc(), &["HelloEng.gf"], "l Greet World\n", &NONE)?;
-    assert!(rt; status == Status::Done);
-    assert_eq!(rt;
-        written.as_str(),
-        "grammar Hello languages HelloEng\nhello world\n"
-    );
-    Ok(())
 }
 
 /// Six lines, of which the third is blank and the last has no newline.
@@ -198,16 +180,5 @@ fn nothing_is_read_or_answered_behind_a_quit(rt: HostRuntime) -> Result<(), Fail
     )?;
     assert!(rt; ended == Status::Done, "{ended:?}");
     assert_eq!(rt; written.as_str(), "grammar Hello languages HelloEng\nmum\n");
-    Ok(())
-}
-
-#[test]
-fn other_words_get_the_usage_line(rt: HostRuntime) -> Result<(), Fail> {
-    let usage = "usage: gfs [FILE ..] | gfs --make OUT FILE .. | gfs --workload N\n";
-    for words in [["--help", "HelloEng.gf"], ["HelloEng.gf", "-x"]] {
-        let (ended, written) = session(rt.alloc(), &words, LINES, &NONE)?;
-        assert!(rt; ended == Status::Usage, "{ended:?}");
-        assert_eq!(rt; written.as_str(), usage);
-    }
     Ok(())
 }
