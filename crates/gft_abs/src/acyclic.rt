@@ -3,7 +3,8 @@ use crate::numbers::{at, filled, put};
 use crate::terms::{Node, Terms};
 use gft_core::NoMemory;
 
-/// Where a walk is: what was met and not left (1) or left (2), and the nodes on the way with the next argument of each.
+/// Where a walk is: what was met and not left (1) or left (2), and the nodes on the way with the
+/// next argument of each.
 #[derive(Drop)]
 struct Walk {
     state: Vec<u32>,

@@ -9,8 +9,9 @@ use gft_rules::Stop;
 use gft_syntax::Flat;
 use std::alloc::Global;
 
-/// The abstract syntax of a resolved grammar, numbered; or the first fault of the abstract module's own judgements, and then
-/// the first category or function that one which it inherits names and it leaves out. Time is all but linear.
+/// The abstract syntax of a resolved grammar, numbered; or the first fault of the abstract module's
+/// own judgements, and then the first category or function that one which it inherits names and it
+/// leaves out. Time is all but linear.
 pub fn check_abstract(alloc: Global, flat: &Flat) -> Result<Abstract, Stop> {
     let names = Names::new(alloc, flat)?;
     let signatures = signatures(alloc, flat, &names)?;

@@ -142,7 +142,8 @@ pub enum Told<'a> {
     Applied(&'a AType, &'a [Tree]),
 }
 
-/// Whether a type with its variables replaced is what is told of a tree; so it is where nothing is told.
+/// Whether a type with its variables replaced is what is told of a tree; so it is where nothing is
+/// told.
 pub fn fits(wanted: &AType, arguments: &[Tree], told: Told<'_>) -> bool {
     match told {
         Told::Nothing => true,

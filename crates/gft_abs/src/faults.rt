@@ -1,4 +1,5 @@
-//! The first fault of an abstract module's own judgements, and the first name that an inherited one lacks.
+//! The first fault of an abstract module's own judgements, and the first name that an inherited one
+//! lacks.
 use crate::graph::Graph;
 use crate::judgement::{check_category, check_function};
 use crate::names::{Meaning, Names};
@@ -29,7 +30,8 @@ fn entry_of<'a>(names: &Names<'a>, entry: Entry) -> Option<&'a FlatJudgement> {
 
 type Key = (u32, u32, bool, u32);
 
-/// Adds a key of each entry that is inherited, or of each that is not: its place in the source, and which it is.
+/// Adds a key of each entry that is inherited, or of each that is not: its place in the source, and
+/// which it is.
 fn push_keys(
     keys: &mut Vec<Key>,
     flat: &Flat,

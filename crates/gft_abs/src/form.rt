@@ -62,8 +62,8 @@ fn misapplied(head: &Term, place: Place) -> Option<Place> {
     Some(place)
 }
 
-/// The first form within a term that abstract syntax lacks, a head before what it is applied to, and otherwise parts before
-/// the whole.
+/// The first form within a term that abstract syntax lacks, a head before what it is applied to,
+/// and otherwise parts before the whole.
 #[cycle(alien)]
 pub fn alien(term: &Term) -> Option<Place> {
     match term {

@@ -67,15 +67,16 @@ impl Graph {
     }
 }
 
-/// The parts of a graph: the part of each node, and the nodes part by part. A part comes after those that it rests on.
+/// The parts of a graph: the part of each node, and the nodes part by part. A part comes after
+/// those that it rests on.
 #[derive(Drop)]
 pub struct Parts {
     pub part: Vec<u32>,
     pub nodes: Vec<u32>,
 }
 
-/// A walk in depth: when each node was met, the earliest node that is reached from it, the nodes of parts that are not ended,
-/// and the nodes on the way with the next edge of each.
+/// A walk in depth: when each node was met, the earliest node that is reached from it, the nodes of
+/// parts that are not ended, and the nodes on the way with the next edge of each.
 #[derive(Drop)]
 struct Walk {
     met: Vec<u32>,

@@ -23,7 +23,8 @@ impl From<NoMemory> for SkeletonErr {
     }
 }
 
-/// A hole: its node, the category of the place where it first stands, and the indices of its type once they are known.
+/// A hole: its node, the category of the place where it first stands, and the indices of its type
+/// once they are known.
 #[derive(Drop)]
 pub struct Hole {
     pub node: u32,
@@ -195,7 +196,8 @@ pub fn arguments_of(terms: &Terms<'_>, first: u32, count: u32) -> Result<Vec<u32
     Ok(found)
 }
 
-/// The indices of the type that a node has by its head, none for a literal; a variable has none known.
+/// The indices of the type that a node has by its head, none for a literal; a variable has none
+/// known.
 fn head_indices(s: &mut Inference<'_>, node: u32) -> Result<Vec<u32>, NoMemory> {
     if let Node::App(fun, first, count) = s.terms.node(node) {
         if let Some(fun) = s.fun(fun) {
@@ -260,8 +262,8 @@ fn type_arguments<'a>(
 }
 
 impl<'a> Inference<'a> {
-    /// Types the whole pattern, subtrees first. False where its indices cannot be made equal. It does not see where a hole
-    /// would have to stand within itself.
+    /// Types the whole pattern, subtrees first. False where its indices cannot be made equal. It
+    /// does not see where a hole would have to stand within itself.
     pub fn infer(&mut self) -> Result<bool, NoMemory> {
         'nodes: for node in 0..self.terms.len() {
             if !type_node(self, node)? {

@@ -38,7 +38,8 @@ fn list_name(r: &Reader<'_, '_>, element: &PlacedName) -> Result<String, Stop> {
     Ok(name)
 }
 
-/// Reads the type of a function that makes lists: `Base` takes so many elements, `Cons` an element and a list.
+/// Reads the type of a function that makes lists: `Base` takes so many elements, `Cons` an element
+/// and a list.
 fn list_types(
     r: &mut Reader<'_, '_>,
     is_base: bool,

@@ -107,8 +107,8 @@ fn list_refused(
     Ok(Some(named(alloc, Rule::UnknownCat, entry.place, name.as_str())))
 }
 
-/// A key of an entry: the place of its module among those inherited from, its place in the source, whether it is a function,
-/// and its place among the categories or the functions.
+/// A key of an entry: the place of its module among those inherited from, its place in the source,
+/// whether it is a function, and its place among the categories or the functions.
 type Key = (u32, (u32, u32), bool, u32);
 
 /// The modules of inherited entries, in order of first occurrence.
@@ -148,8 +148,8 @@ fn push_keys(
     Ok(())
 }
 
-/// The first name that an inherited judgement lacks: judgements module by module in the order of inheritance, each module's in
-/// source order.
+/// The first name that an inherited judgement lacks: judgements module by module in the order of
+/// inheritance, each module's in source order.
 pub fn first_lack(alloc: Global, flat: &Flat, names: &Names<'_>) -> Result<Option<Stop>, NoMemory> {
     let mut modules: IndexSet<&str> = IndexSet::new(alloc);
     add_modules(&mut modules, flat.cats.as_slice())?;

@@ -9,8 +9,8 @@ pub fn function_named(funs: &[Fun], name: &str) -> Option<u32> {
     }
 }
 
-/// The number of the category of this name: `Int` is 0, `String` is 1, and the others are sorted after them. It takes no
-/// memory.
+/// The number of the category of this name: `Int` is 0, `String` is 1, and the others are sorted
+/// after them. It takes no memory.
 pub fn category_named(cats: &[Cat], name: &str) -> Option<u32> {
     if name == "Int" {
         return Some(0);

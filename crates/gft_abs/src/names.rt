@@ -1,10 +1,12 @@
-//! The categories and functions of an abstract module by their names, numbered in the order of names.
+//! The categories and functions of an abstract module by their names, numbered in the order of
+//! names.
 use gft_core::{Name, NoMemory};
 use gft_syntax::{Flat, FlatJudgement, Reference, Whole};
 use indexmap::IndexMap;
 use std::alloc::Global;
 
-/// The entries of an abstract module. A category's place in `cats` is its number less 2, a function's in `funs` its number.
+/// The entries of an abstract module. A category's place in `cats` is its number less 2, a
+/// function's in `funs` its number.
 #[derive(Drop)]
 pub struct Names<'a> {
     pub cats: Vec<&'a FlatJudgement>,

@@ -1,4 +1,5 @@
-//! Types of abstract judgements read from terms, and their faults in the order in which they are refused.
+//! Types of abstract judgements read from terms, and their faults in the order in which they are
+//! refused.
 use crate::equality::{Told, fits};
 use crate::lookup::function_named;
 use crate::names::{Meaning, Names, built_in};
@@ -14,8 +15,8 @@ use sqlite_items::Items;
 use std::alloc::Global;
 use std::mem;
 
-/// What is known of all signatures: the categories and functions as far as they can be read, and for each whether it can.
-/// A function has its number of arguments in any case.
+/// What is known of all signatures: the categories and functions as far as they can be read, and
+/// for each whether it can. A function has its number of arguments in any case.
 #[derive(Drop)]
 pub struct Signatures {
     pub abs: Abstract,
@@ -24,8 +25,8 @@ pub struct Signatures {
     pub arities: Vec<u32>,
     /// Whether all can be read, and nothing that is named is left out.
     pub whole: bool,
-    /// The categories that a module leaves out of what it inherits, but that a judgement which it keeps names. They are
-    /// numbered after all others.
+    /// The categories that a module leaves out of what it inherits, but that a judgement which it
+    /// keeps names. They are numbered after all others.
     pub left_out: Vec<String>,
 }
 
@@ -47,7 +48,8 @@ pub enum Applied {
     Function(u32),
 }
 
-/// A reader of one judgement's types. Without signatures it reads types and says no more than whether it can.
+/// A reader of one judgement's types. Without signatures it reads types and says no more than
+/// whether it can.
 #[derive(Drop)]
 pub struct Reader<'r, 'a> {
     alloc: Global,
@@ -116,8 +118,8 @@ impl<'r, 'a> Reader<'r, 'a> {
         number_after(self.names.cats.len(), at)
     }
 
-    /// The category that a name means at the head of a type. A name that is no variable and no judgement is that of a built-in
-    /// category.
+    /// The category that a name means at the head of a type. A name that is no variable and no
+    /// judgement is that of a built-in category.
     pub fn category(&mut self, reference: &Reference) -> Result<Option<u32>, NoMemory> {
         match reference {
             Reference::Whole(whole) => match self.names.meaning(whole) {

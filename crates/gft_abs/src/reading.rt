@@ -7,7 +7,8 @@ use gft_pmcfg::AType;
 use gft_rules::{Rule, Stop};
 use gft_syntax::{Reference, Term, Whole, place_of};
 
-/// The type of a function: its arguments' types go to the reader one after the other, then that of its result.
+/// The type of a function: its arguments' types go to the reader one after the other, then that of
+/// its result.
 #[cycle(reading)]
 pub fn function<'r, 'a>(r: &mut Reader<'r, 'a>, term: &'a Term) -> Result<(), Stop> {
     match term {

@@ -77,7 +77,8 @@ fn put(
     Ok(())
 }
 
-/// The tree of a node. Its variables become holes, numbered from 1 in the order in which they are seen.
+/// The tree of a node. Its variables become holes, numbered from 1 in the order in which they are
+/// seen.
 pub fn tree_of(terms: &Terms<'_>, seen: &mut IndexSet<u32>, node: u32) -> Result<Tree, NoMemory> {
     let nodes = nodes_of(terms, node)?;
     let mut built: Vec<Tree> = Vec::new(terms.alloc());

@@ -10,7 +10,8 @@ use indexmap::{IndexMap, IndexSet};
 use sqlite_items::Items;
 use std::alloc::{AllocError, Global};
 
-/// A pattern that has a type: its most general instance, its type, and the type of each hole, from 1.
+/// A pattern that has a type: its most general instance, its type, and the type of each hole, from
+/// 1.
 #[derive(Drop)]
 pub struct Solved {
     pub pattern: Tree,
@@ -18,8 +19,9 @@ pub struct Solved {
     pub holes: Vec<AType>,
 }
 
-/// Why a pattern has no type. The first three are the first in pre-order, in this order at one subtree; `WrongCategory` has the
-/// category that was expected and the one that was found. `IllTyped` has the first subtree in post-order without a type.
+/// Why a pattern has no type. The first three are the first in pre-order, in this order at one
+/// subtree; `WrongCategory` has the category that was expected and the one that was found.
+/// `IllTyped` has the first subtree in post-order without a type.
 #[derive(Drop)]
 pub enum SolveErr {
     UnknownFun(Name),
@@ -242,8 +244,9 @@ fn solution_of(s: &mut Inference<'_>, root: u32) -> Result<Solved, NoMemory> {
     })
 }
 
-/// The most general typed instance of a pattern; `cat` is the category of one that is one hole. Time is all but linear in the
-/// pattern, the signatures of its functions and the answer; where it is ill-typed, in its size times its depth.
+/// The most general typed instance of a pattern; `cat` is the category of one that is one hole.
+/// Time is all but linear in the pattern, the signatures of its functions and the answer; where it
+/// is ill-typed, in its size times its depth.
 pub fn solve(alloc: Global, abs: &Abstract, pattern: &Tree, cat: u32) -> Result<Solved, SolveErr> {
     if let Tree::Hole(_) = pattern {
         return Ok(solve_hole(alloc, abs, cat)?);

@@ -1,4 +1,5 @@
-//! Trees as shared nodes, and their unification. Equal nodes are joined, and what was joined last can be parted again.
+//! Trees as shared nodes, and their unification. Equal nodes are joined, and what was joined last
+//! can be parted again.
 use crate::lookup::function_named;
 use crate::numbers::{NONE, at, put};
 use gft_core::{Name, NoMemory, Token, Tree};
@@ -6,8 +7,8 @@ use gft_pmcfg::{AType, Fun};
 use sqlite_items::Items;
 use std::alloc::Global;
 
-/// A node: a function by its number, applied to the nodes that stand in the list of arguments from there on; a literal, a word by
-/// its number; or a variable.
+/// A node: a function by its number, applied to the nodes that stand in the list of arguments from
+/// there on; a literal, a word by its number; or a variable.
 #[derive(Clone, Copy)]
 pub enum Node {
     App(u32, u32, u32),
@@ -25,8 +26,8 @@ pub struct Mark {
     joined: usize,
 }
 
-/// Nodes, each with the node that it is joined to. A node that is joined to none stands for all that are joined to it; it is a
-/// variable only where all of them are.
+/// Nodes, each with the node that it is joined to. A node that is joined to none stands for all
+/// that are joined to it; it is a variable only where all of them are.
 #[derive(Drop)]
 pub struct Terms<'a> {
     alloc: Global,
@@ -181,7 +182,8 @@ impl<'a> Terms<'a> {
         Ok(())
     }
 
-    /// Makes two nodes equal that stand for themselves and are no variables. False where their heads keep them apart.
+    /// Makes two nodes equal that stand for themselves and are no variables. False where their
+    /// heads keep them apart.
     fn join_heads(&mut self, a: u32, b: u32) -> Result<bool, NoMemory> {
         match self.node(a) {
             Node::App(f, first, count) => match self.node(b) {
@@ -237,8 +239,9 @@ impl<'a> Terms<'a> {
         self.join_heads(a, b)
     }
 
-    /// Makes two nodes equal, but does not see where a variable would have to stand within itself. False where no trees for the
-    /// variables make them equal. Each node is joined at most once, so there are at most as many pairs as arguments.
+    /// Makes two nodes equal, but does not see where a variable would have to stand within itself.
+    /// False where no trees for the variables make them equal. Each node is joined at most once, so
+    /// there are at most as many pairs as arguments.
     pub fn unify(&mut self, a: u32, b: u32) -> Result<bool, NoMemory> {
         self.work.clear();
         self.work.push((a, b))?;

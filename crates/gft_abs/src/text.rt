@@ -98,7 +98,8 @@ fn push_category(out: &mut String, abs: &Abstract, cat: &Cat) -> Result<(), NoMe
     Ok(())
 }
 
-/// The line of a category: `cat C (x1 : A) (x2 : B x1)`; the empty text where there is none of this number.
+/// The line of a category: `cat C (x1 : A) (x2 : B x1)`; the empty text where there is none of this
+/// number.
 pub fn show_category(alloc: Global, abs: &Abstract, cat: u32) -> Result<Text, NoMemory> {
     let mut out = String::new(alloc);
     if let Some(cat) = abs.cats.get(cat as usize) {
@@ -165,8 +166,8 @@ fn push_function(
     push_type(out, abs, &fun.result)
 }
 
-/// The line of a function: `fun f : A -> (x2 : B) -> C x2`, an argument named exactly where a later type uses it; the empty
-/// text where there is none of this number.
+/// The line of a function: `fun f : A -> (x2 : B) -> C x2`, an argument named exactly where a later
+/// type uses it; the empty text where there is none of this number.
 pub fn show_function(alloc: Global, abs: &Abstract, fun: u32) -> Result<Text, NoMemory> {
     let mut out = String::new(alloc);
     if let Some(fun) = abs.funs.get(fun as usize) {

@@ -1,12 +1,12 @@
-//! Which of several faulty judgements is met first: judgements are taken in source order, and at the turn of each come first
-//! those that it rests on and that do not rest on it.
+//! Which of several faulty judgements is met first: judgements are taken in source order, and at
+//! the turn of each come first those that it rests on and that do not rest on it.
 use crate::graph::{Graph, Parts, parts_of};
 use crate::numbers::{NONE, at, filled, put};
 use gft_core::NoMemory;
 use std::alloc::Global;
 
-/// For each part, the first node that leads to a fault of its own or below its part (`met`), and the first such node below the
-/// part (`below`).
+/// For each part, the first node that leads to a fault of its own or below its part (`met`), and
+/// the first such node below the part (`below`).
 #[derive(Drop)]
 struct Firsts {
     met: Vec<u32>,
@@ -92,8 +92,8 @@ fn firsts_of(
     Ok(firsts)
 }
 
-/// The first of the faulty nodes whose turn comes; nodes are numbered in source order. `NONE` where none is faulty. Linear
-/// time.
+/// The first of the faulty nodes whose turn comes; nodes are numbered in source order. `NONE` where
+/// none is faulty. Linear time.
 pub fn first_faulty(alloc: Global, graph: &Graph, faulty: &[bool]) -> Result<u32, NoMemory> {
     let parts = parts_of(alloc, graph)?;
     let firsts = firsts_of(alloc, graph, &parts, faulty)?;

@@ -104,8 +104,8 @@ pub fn count(len: usize) -> u32 {
     }
 }
 
-/// The first category (false), else function (true), that breaks `Arity` or `IndexType`: their types in order, subterms
-/// before what they stand in. It takes no memory.
+/// The first category (false), else function (true), that breaks `Arity` or `IndexType`: their
+/// types in order, subterms before what they stand in. It takes no memory.
 pub fn check_types(_alloc: Global, abs: &Abstract) -> Result<Option<(bool, u32, Rule)>, NoMemory> {
     'categories: for number in 0..count(abs.cats.len()) {
         if let Some(rule) = category_fault(abs, number) {

@@ -206,10 +206,11 @@ fn rules_of(alloc: Global, meaning: &Meaning, c: &Concrete, cat: u32) -> Result<
     Ok(met)
 }
 
-/// The context-free approximation of a language for a category: a rule for each component of each production
-/// that a tree without holes uses, and one for each way to make a string of the category. Each rule stands
-/// once, in byte order of the lines. Every sentence is derived by the rules; where no category has more
-/// than one string cell, and no sequence has a cell twice, they derive nothing else.
+/// The context-free approximation of a language for a category: a rule for each component of each
+/// production that a tree without holes uses, and one for each way to make a string of the
+/// category. Each rule stands once, in byte order of the lines. Every sentence is derived by the
+/// rules; where no category has more than one string cell, and no sequence has a cell twice, they
+/// derive nothing else.
 pub fn approximate(alloc: Global, g: &Grammar, lang: u32, cat: u32) -> Result<Cfg, NoMemory> {
     let Some(c) = g.concretes.get(lang as usize) else {
         let rules = Vec::new(alloc);

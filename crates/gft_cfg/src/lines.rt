@@ -4,8 +4,8 @@ use gft_core::{NoMemory, Text};
 use gft_pmcfg::{Abstract, Cat, Grammar, Info};
 use std::alloc::Global;
 
-/// What the numbers of rules mean: the categories, the cases of their nonterminals, and the category of
-/// the start symbol.
+/// What the numbers of rules mean: the categories, the cases of their nonterminals, and the
+/// category of the start symbol.
 #[derive(Clone, Copy)]
 pub struct Meaning<'a> {
     cats: &'a [Cat],
@@ -36,7 +36,8 @@ impl<'a> Meaning<'a> {
         Ok(())
     }
 
-    /// A component of a nonterminal: the category's name, the case and the component, with dots between.
+    /// A component of a nonterminal: the category's name, the case and the component, with dots
+    /// between.
     fn push_part(
         &self,
         line: &mut String,

@@ -1,7 +1,8 @@
 //! Rules of a context-free grammar.
 use gft_core::Token;
 
-/// A symbol that has rules: the start symbol, or a component of a nonterminal, both by number from 0.
+/// A symbol that has rules: the start symbol, or a component of a nonterminal, both by number from
+/// 0.
 #[derive(Clone, Copy, Debug, PartialEq, Eq)]
 pub enum CfName {
     Start,

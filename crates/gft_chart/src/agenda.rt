@@ -5,7 +5,8 @@ use crate::tables::{Symbol, Tables};
 use gft_core::NoMemory;
 
 impl Items {
-    /// The group of what is awaited after the last word; made, with its predicted items, if it is new.
+    /// The group of what is awaited after the last word; made, with its predicted items, if it is
+    /// new.
     pub fn await_group(
         &mut self,
         tables: &Tables,
@@ -218,7 +219,8 @@ impl Items {
         self.advance_all(tables, waiting, node)
     }
 
-    /// One more finished item of a known node: each component that is awaited of the node is predicted by it.
+    /// One more finished item of a known node: each component that is awaited of the node is
+    /// predicted by it.
     fn complete_again(
         &mut self,
         tables: &Tables,

@@ -14,12 +14,13 @@ pub enum Await {
     Word(Token),
     AnyInt,
     AnyString,
-    /// The item at a place, from 0, of a component of each run that a node of the forest holds: node, component, place.
+    /// The item at a place, from 0, of a component of each run that a node of the forest holds:
+    /// node, component, place.
     Again(u32, u32, u32),
 }
 
-/// All that stands right after the words, each word and each literal once, with the forest of the nodes
-/// whose components come again.
+/// All that stands right after the words, each word and each literal once, with the forest of the
+/// nodes whose components come again.
 #[derive(Drop)]
 pub struct Awaited {
     pub items: List<Await>,

@@ -40,8 +40,8 @@ impl<'g> Chart<'g> {
         begin(alloc, tables.share()?, c, cat)
     }
 
-    /// Reads one more word; false where no sentence begins so. Then, and after want of memory, the chart
-    /// is unchanged.
+    /// Reads one more word; false where no sentence begins so. Then, and after want of memory, the
+    /// chart is unchanged.
     pub fn feed(&mut self, word: &Token) -> Result<bool, NoMemory> {
         self.items.feed(self.alloc, self.tables.get(), word)
     }

@@ -4,7 +4,8 @@ use gft_core::NoMemory;
 /// Stands for "none" where a table holds numbers.
 pub const NONE: u32 = u32::MAX;
 
-/// A length as a number of a table. Tables end before `NONE`: past that the answer is want of memory.
+/// A length as a number of a table. Tables end before `NONE`: past that the answer is want of
+/// memory.
 pub fn count(length: usize) -> Result<u32, NoMemory> {
     match u32::try_from(length) {
         Ok(number) if number < NONE => Ok(number),

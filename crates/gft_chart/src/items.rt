@@ -1,4 +1,5 @@
-//! What a chart holds: items, groups (what is awaited, and where) and nodes (what was found, and where).
+//! What a chart holds: items, groups (what is awaited, and where) and nodes (what was found, and
+//! where).
 use crate::count::{NONE, count, place, read};
 use crate::tables::{Origin, Rule, Symbol, Tables};
 use gft_core::{NoMemory, Token};
@@ -10,8 +11,8 @@ pub struct Item {
     pub dot: u32,
     /// The group that it was predicted for.
     pub group: u32,
-    /// Where its arguments begin, among those of the tables and, after them, of the chart: nonterminals,
-    /// or nodes, whose components were read.
+    /// Where its arguments begin, among those of the tables and, after them, of the chart:
+    /// nonterminals, or nodes, whose components were read.
     pub arguments: u32,
 }
 
@@ -77,12 +78,13 @@ pub struct Last {
 }
 
 /// The tables of a chart. They only grow, but for a word that is taken back. What `Group::found`,
-/// `Node::groups` and `latest` say counts only where the group or node named was made at the last word
-/// and is the one that is sought, so that nothing needs to be taken back there.
+/// `Node::groups` and `latest` say counts only where the group or node named was made at the last
+/// word and is the one that is sought, so that nothing needs to be taken back there.
 #[derive(Drop)]
 pub struct Items {
     pub items: Vec<Item>,
-    /// For each item the next one that awaits the same group, or, of a finished item, the next one of its node.
+    /// For each item the next one that awaits the same group, or, of a finished item, the next one
+    /// of its node.
     pub links: Vec<u32>,
     pub groups: Vec<Group>,
     pub nodes: Vec<Node>,

@@ -12,8 +12,9 @@ use std::alloc::Global;
 /// A component with its first word and the word after its last.
 type Pin = (u32, u32, u32);
 
-/// The nodes that a forest has, in the order of their numbers. Two nodes of a chart with one nonterminal
-/// and equal spans, whose components without words were read in different orders, are one node here.
+/// The nodes that a forest has, in the order of their numbers. Two nodes of a chart with one
+/// nonterminal and equal spans, whose components without words were read in different orders, are
+/// one node here.
 #[derive(Drop)]
 pub struct Packing {
     alloc: Global,
@@ -21,7 +22,8 @@ pub struct Packing {
     numbers: Vec<u32>,
     /// For each node of the forest a node of the chart, or a nonterminal: its hole.
     reached: Vec<u32>,
-    /// The numbers of nodes with several components without words at one place, by nonterminal and spans.
+    /// The numbers of nodes with several components without words at one place, by nonterminal and
+    /// spans.
     twisted: IndexMap<Vec<u32>, u32>,
 }
 

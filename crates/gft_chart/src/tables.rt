@@ -41,7 +41,8 @@ pub struct Rule {
     pub components: u32,
 }
 
-/// A sequence that a slot may begin with, at its first place or, if a word stands there, at the next one.
+/// A sequence that a slot may begin with, at its first place or, if a word stands there, at the
+/// next one.
 #[derive(Clone, Copy, PartialEq, Eq, PartialOrd, Ord)]
 pub struct Opening {
     pub slot: u32,
@@ -51,9 +52,10 @@ pub struct Opening {
     pub arguments: u32,
 }
 
-/// What parsing needs of a concrete syntax, made once. A root is a nonterminal for each category after
-/// those of the grammar, and its productions are the refs. Only productions whose arguments all have runs
-/// without holes are kept. A slot is a component of a nonterminal that has such runs, or of a root.
+/// What parsing needs of a concrete syntax, made once. A root is a nonterminal for each category
+/// after those of the grammar, and its productions are the refs. Only productions whose arguments
+/// all have runs without holes are kept. A slot is a component of a nonterminal that has such runs,
+/// or of a root.
 #[derive(Drop)]
 pub struct Tables {
     pub(crate) words: IndexSet<String>,
@@ -67,7 +69,8 @@ pub struct Tables {
     /// For each nonterminal and root its first slot, or `NONE`.
     pub(crate) slots: Vec<u32>,
     pub(crate) slot_count: u32,
-    /// Openings without a first word, and those with one, by slot, and where each slot begins in them.
+    /// Openings without a first word, and those with one, by slot, and where each slot begins in
+    /// them.
     pub(crate) predicted: Vec<Opening>,
     pub(crate) predicted_from: Vec<u32>,
     pub(crate) starting: Vec<Opening>,

@@ -6,7 +6,8 @@ use gft_pmcfg::Prod;
 use indexmap::IndexSet;
 use std::alloc::Global;
 
-/// Rows without their argument at a place, each once, and the nonterminals that stood there for each.
+/// Rows without their argument at a place, each once, and the nonterminals that stood there for
+/// each.
 #[derive(Drop)]
 struct Merging {
     rows: IndexSet<Row>,
@@ -93,7 +94,8 @@ fn arity(prods: &[Prod], from: usize) -> usize {
     }
 }
 
-/// Adds the merged rows of the productions from one place to another, which are those of a function.
+/// Adds the merged rows of the productions from one place to another, which are those of a
+/// function.
 fn add_function(
     alloc: Global,
     prods: &[Prod],

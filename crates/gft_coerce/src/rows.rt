@@ -5,9 +5,9 @@ use gft_pmcfg::Prod;
 use indexmap::IndexSet;
 use std::alloc::Global;
 
-/// A production. Where two of its function are alike but for their sequences, `rank` is less for those that
-/// come first in order; `sample` is the first production with these sequences. Rows are in the order of
-/// productions.
+/// A production. Where two of its function are alike but for their sequences, `rank` is less for
+/// those that come first in order; `sample` is the first production with these sequences. Rows are
+/// in the order of productions.
 #[derive(PartialEq, Eq, PartialOrd, Ord, Hash, Drop)]
 pub struct Row {
     pub fun: u32,
@@ -24,8 +24,8 @@ struct Ranked {
     number: usize,
 }
 
-/// What was met of the sequences of a function: for each production in turn the number of its sequences,
-/// and for each of these numbers the first production.
+/// What was met of the sequences of a function: for each production in turn the number of its
+/// sequences, and for each of these numbers the first production.
 #[derive(Drop)]
 struct Met {
     seqs: IndexSet<Vec<u8>>,
@@ -102,8 +102,9 @@ fn row_of(alloc: Global, prod: &Prod, rank: usize, sample: usize) -> Result<Row,
     })
 }
 
-/// Adds the rows of the productions from one place to another, of which no two can become one: that of a
-/// function which has no other, or those of a function without arguments. Their own order is that of rows.
+/// Adds the rows of the productions from one place to another, of which no two can become one: that
+/// of a function which has no other, or those of a function without arguments. Their own order is
+/// that of rows.
 pub fn add_alone(
     alloc: Global,
     prods: &[Prod],

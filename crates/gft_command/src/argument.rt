@@ -84,8 +84,8 @@ fn read_a_tree(alloc: Global, argument: &str) -> Result<Argument, Stop> {
     }
 }
 
-/// Whether the command takes a file of that name: sources and portable files are imported, portable files
-/// are written.
+/// Whether the command takes a file of that name: sources and portable files are imported, portable
+/// files are written.
 fn takes_file(verb: Verb, name: &str) -> bool {
     name.ends_with(".gft") || (verb == Verb::Import && name.ends_with(".gf"))
 }
@@ -132,7 +132,8 @@ fn read_nothing(alloc: Global, argument: &str) -> Result<Argument, Stop> {
     }
 }
 
-/// The argument of a command, trimmed. A later command of a pipe may be without one whatever it takes.
+/// The argument of a command, trimmed. A later command of a pipe may be without one whatever it
+/// takes.
 pub fn read_argument(
     alloc: Global,
     verb: Verb,

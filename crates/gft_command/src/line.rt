@@ -47,8 +47,8 @@ fn read_commands(alloc: Global, pipe: &str) -> Result<Vec<Command>, Stop> {
     Ok(commands)
 }
 
-/// Whether the command takes what the one before it hands on, and has no argument of its own. Strings with
-/// brackets are not handed on.
+/// Whether the command takes what the one before it hands on, and has no argument of its own.
+/// Strings with brackets are not handed on.
 fn follows(before: &Command, command: &Command) -> bool {
     if before.bracket {
         return false;
@@ -92,8 +92,8 @@ fn read_pipe(alloc: Global, text: &str) -> Result<Read, NoMemory> {
     }
 }
 
-/// The pipes of the line that are not blank, in order; a refused one has the first refusal that the line
-/// alone shows. A line that begins with two hyphens has none. Linear in the line.
+/// The pipes of the line that are not blank, in order; a refused one has the first refusal that the
+/// line alone shows. A line that begins with two hyphens has none. Linear in the line.
 pub fn read_line(alloc: Global, line: &str) -> Result<Vec<Read>, NoMemory> {
     let mut reads = Vec::new(alloc);
     if line.starts_with("--") {

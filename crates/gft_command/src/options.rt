@@ -142,8 +142,8 @@ impl Options {
     }
 }
 
-/// The options that the text begins with, and what follows them. Each stands at most once, so a fourth
-/// one is refused.
+/// The options that the text begins with, and what follows them. Each stands at most once, so a
+/// fourth one is refused.
 pub fn read_options(alloc: Global, verb: Verb, text: &str) -> Result<(Options, &str), Stop> {
     let mut options = Options {
         lang: None,

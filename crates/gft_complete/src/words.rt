@@ -4,7 +4,8 @@ use gft_chart::Await;
 use gft_core::{NoMemory, Token};
 use std::alloc::Global;
 
-/// What may stand right after the words: words of the grammar in byte order, and whether a literal of `Int` or `String`.
+/// What may stand right after the words: words of the grammar in byte order, and whether a literal
+/// of `Int` or `String`.
 #[derive(Drop)]
 pub struct Next {
     pub tokens: Vec<Token>,

@@ -9,9 +9,9 @@ use std::alloc::Global;
 use std::marker::Model;
 use unicode::properties::{is_xid_continue, is_xid_start};
 
-/// An identifier: it begins with a character of XID_Start or an underscore and goes on with characters
-/// of XID_Continue and apostrophes; the single underscore is none. A reserved word of the source
-/// language is a name too. Contracts see its bytes.
+/// An identifier: it begins with a character of XID_Start or an underscore and goes on with
+/// characters of XID_Continue and apostrophes; the single underscore is none. A reserved word of
+/// the source language is a name too. Contracts see its bytes.
 #[derive(Debug, Drop)]
 pub struct Name {
     text: String,

@@ -6,7 +6,8 @@ use std::alloc::Global;
 use std::marker::Model;
 use std::rc::Rc;
 
-/// A value that several owners share, so that a copy costs the same whatever its size. Contracts see the value.
+/// A value that several owners share, so that a copy costs the same whatever its size. Contracts
+/// see the value.
 #[derive(Drop)]
 pub struct Shared<T> {
     inner: Rc<T>,

@@ -8,7 +8,8 @@ use gft_value::copy_whole;
 use sqlite_items::Items;
 
 impl<'a> Machine<'a> {
-    /// The value of that number. What a value is made of has smaller numbers. A recursion as deep as the value.
+    /// The value of that number. What a value is made of has smaller numbers. A recursion as deep
+    /// as the value.
     #[cycle(answers)]
     pub fn answer(&self, place: u32) -> Result<Value, Stop> {
         match self.datum(place)? {

@@ -7,8 +7,8 @@ use gft_syntax::CType;
 
 impl<'a> Machine<'a> {
     /// One argument more of the type. Its string cells are the closed parts `Part(argument, 0)`,
-    /// `Part(argument, 1)` and so on; its parameter cells are numbered on through all arguments, and nothing is
-    /// known of them. The type has few cells. A recursion as deep as the type.
+    /// `Part(argument, 1)` and so on; its parameter cells are numbered on through all arguments,
+    /// and nothing is known of them. The type has few cells. A recursion as deep as the type.
     pub fn add_argument(&mut self, of: &'a CType) -> Result<(), NoMemory> {
         self.strings = 0;
         match self.add_cells(of) {

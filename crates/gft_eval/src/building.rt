@@ -94,7 +94,8 @@ impl<'a> Machine<'a> {
         self.push(field.value)
     }
 
-    /// Adds the fields of the second record that stand before the label, and gives the place after them.
+    /// Adds the fields of the second record that stand before the label, and gives the place after
+    /// them.
     fn fields_before(&mut self, fields: Range, label: u32) -> Result<u32, Stop> {
         for place in fields.from..fields.to {
             let field = self.field(place)?;

@@ -1,13 +1,14 @@
-//! What a run has come to of a term, as nodes, with the names, patterns and types that they speak of.
+//! What a run has come to of a term, as nodes, with the names, patterns and types that they speak
+//! of.
 use crate::data::{Field, Range, add, get, number, since};
 use crate::node::Node;
 use gft_core::{Name, NoMemory};
 use gft_syntax::{CType, LinTerm, Pattern, Whole};
 use std::alloc::Global;
 
-/// Nodes, the term of each, and what they speak of by number. Node 0 is the whole term. A term is read
-/// where a run comes to it, one level at a time, so a branch that nothing takes costs nothing, and no chain
-/// of terms is too deep.
+/// Nodes, the term of each, and what they speak of by number. Node 0 is the whole term. A term is
+/// read where a run comes to it, one level at a time, so a branch that nothing takes costs nothing,
+/// and no chain of terms is too deep.
 #[derive(Drop)]
 pub struct Code<'a> {
     pub nodes: Vec<Node>,

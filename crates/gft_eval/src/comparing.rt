@@ -4,8 +4,8 @@ use crate::machine::Machine;
 use crate::stop::Stop;
 
 impl<'a> Machine<'a> {
-    /// Whether two values are equal. Parameter cells within them are asked for. What is left to compare
-    /// lies on a stack.
+    /// Whether two values are equal. Parameter cells within them are asked for. What is left to
+    /// compare lies on a stack.
     pub fn same(&mut self, one: u32, other: u32) -> Result<bool, Stop> {
         self.pairs.clear();
         self.pairs.push((one, other))?;

@@ -24,8 +24,8 @@ impl Range {
     }
 }
 
-/// An item of a string: a word by its number, where equal words have equal numbers, or a closed part,
-/// `Part(argument, string cell)`, both from 0.
+/// An item of a string: a word by its number, where equal words have equal numbers, or a closed
+/// part, `Part(argument, string cell)`, both from 0.
 #[derive(Clone, Copy, PartialEq, Eq)]
 pub enum Symbol {
     Word(u32),
@@ -39,8 +39,8 @@ pub struct Field {
     pub value: u32,
 }
 
-/// A value. The fields of a record stand in byte order of their labels, the items of a table in the order
-/// of the values of its type. What a value is made of has smaller numbers.
+/// A value. The fields of a record stand in byte order of their labels, the items of a table in the
+/// order of the values of its type. What a value is made of has smaller numbers.
 #[derive(Clone, Copy)]
 pub enum Datum {
     /// A string: its symbols.
@@ -57,8 +57,8 @@ pub enum Datum {
     Cell(u32),
 }
 
-/// The length of a table as a number. Tables end before the greatest number: past that the answer is want
-/// of memory.
+/// The length of a table as a number. Tables end before the greatest number: past that the answer
+/// is want of memory.
 pub fn number(length: usize) -> Result<u32, NoMemory> {
     match u32::try_from(length) {
         Ok(number) if number < u32::MAX => Ok(number),

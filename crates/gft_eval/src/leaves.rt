@@ -7,10 +7,11 @@ use gft_core::Name;
 use gft_syntax::CType;
 
 impl<'a> Machine<'a> {
-    /// Adds the distinct outcomes of the term, of this type, in the order of the scripts of choices that
-    /// lead to them, and gives how many there are. Else the first stuck step in that order, or a parameter cell
-    /// that is not known and has to be; then nothing is added. Two outcomes that may differ in such a cell alone ask
-    /// for it. The time is that of the runs: one for each script.
+    /// Adds the distinct outcomes of the term, of this type, in the order of the scripts of choices
+    /// that lead to them, and gives how many there are. Else the first stuck step in that order, or
+    /// a parameter cell that is not known and has to be; then nothing is added. Two outcomes that
+    /// may differ in such a cell alone ask for it. The time is that of the runs: one for each
+    /// script.
     pub fn outcomes(&mut self, of: &'a CType, all: &mut Outcomes) -> Result<u32, Stop> {
         let filled = all.filled();
         match self.add_outcomes(of, all) {

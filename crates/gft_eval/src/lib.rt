@@ -1,5 +1,5 @@
-//! Evaluation of normal terms: all results of a term on values, or on arguments of which only the types and
-//! some parameters are known.
+//! Evaluation of normal terms: all results of a term on values, or on arguments of which only the
+//! types and some parameters are known.
 #![tactic(auto)]
 
 mod answers;

@@ -17,8 +17,8 @@ pub struct Cell {
     pub known: Option<u32>,
 }
 
-/// How far the tables are filled by what stays from one term to the next: the values of types, with the
-/// labels and constructors that they speak of.
+/// How far the tables are filled by what stays from one term to the next: the values of types, with
+/// the labels and constructors that they speak of.
 #[derive(Clone, Copy)]
 pub struct Kept {
     pub data: Mark,
@@ -26,8 +26,8 @@ pub struct Kept {
     pub wholes: usize,
 }
 
-/// Runs one term after another. Terms and types are those of one grammar. It keeps nothing but numbers and
-/// references, so it lets go of no term.
+/// Runs one term after another. Terms and types are those of one grammar. It keeps nothing but
+/// numbers and references, so it lets go of no term.
 #[derive(Drop)]
 pub struct Machine<'a> {
     pub alloc: Global,
@@ -82,8 +82,8 @@ impl<'a> Machine<'a> {
         }
     }
 
-    /// Takes up a term, and forgets the one before with its arguments. What types have stays, and so do the
-    /// words.
+    /// Takes up a term, and forgets the one before with its arguments. What types have stays, and
+    /// so do the words.
     pub fn begin(&mut self, term: &'a LinTerm) -> Result<(), NoMemory> {
         self.data.cut_back(self.kept.data);
         self.base = self.kept.data;
@@ -124,7 +124,8 @@ impl<'a> Machine<'a> {
         }
     }
 
-    /// Says which value a parameter cell has, by its number in the order of its type, or that it is not known.
+    /// Says which value a parameter cell has, by its number in the order of its type, or that it is
+    /// not known.
     pub fn set(&mut self, cell: u32, value: Option<u32>) {
         if let Some(cell) = self.cells.get_mut(cell as usize) {
             cell.known = value;

@@ -31,8 +31,8 @@ fn place_of(names: &[&Name], name: &Name) -> usize {
 }
 
 impl<'a> Machine<'a> {
-    /// Whether a pattern matches a string, given with its text. What the variables have is bound where it
-    /// does, else nothing is.
+    /// Whether a pattern matches a string, given with its text. What the variables have is bound
+    /// where it does, else nothing is.
     pub fn matches_text(&mut self, pattern: u32, string: u32, text: Range) -> Result<bool, Stop> {
         let Some(pattern) = get(self.code.patterns.as_slice(), pattern) else {
             return Ok(false); // excluded: the pattern was read
@@ -81,8 +81,8 @@ impl<'a> Machine<'a> {
         Ok(true)
     }
 
-    /// Whether the pattern of that number matches a value that is no string. What its variables have is
-    /// bound; where it does not match, that is open.
+    /// Whether the pattern of that number matches a value that is no string. What its variables
+    /// have is bound; where it does not match, that is open.
     pub fn matches_branch(&mut self, pattern: u32, value: u32) -> Result<bool, Stop> {
         match get(self.code.patterns.as_slice(), pattern) {
             Some(pattern) => self.matches(pattern, value),

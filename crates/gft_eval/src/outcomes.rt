@@ -5,8 +5,8 @@ use crate::stop::Stop;
 use gft_core::NoMemory;
 use std::alloc::Global;
 
-/// A parameter leaf: a value by its number in the order of its type, or that of a parameter cell of the
-/// arguments which is not known.
+/// A parameter leaf: a value by its number in the order of its type, or that of a parameter cell of
+/// the arguments which is not known.
 #[derive(Clone, Copy)]
 pub enum Leaf {
     Known(u32),
@@ -29,8 +29,8 @@ pub struct Filled {
     outcomes: usize,
 }
 
-/// Outcomes one after the other, with the tables of what they are made of. The outcomes of one call are
-/// distinct.
+/// Outcomes one after the other, with the tables of what they are made of. The outcomes of one call
+/// are distinct.
 #[derive(Drop)]
 pub struct Outcomes {
     alloc: Global,
@@ -179,8 +179,8 @@ impl Outcomes {
         None
     }
 
-    /// The last of the outcomes with the same strings from this one on, None where one of them has these
-    /// leaves. Asks for what decides it.
+    /// The last of the outcomes with the same strings from this one on, None where one of them has
+    /// these leaves. Asks for what decides it.
     fn last_without(&self, first: u32, leaves: Range) -> Result<Option<u32>, Stop> {
         let mut at = first;
         for _ in 0..self.outcomes.len() {

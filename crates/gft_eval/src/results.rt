@@ -45,9 +45,9 @@ fn answers(machine: &Machine<'_>, found: &[u32]) -> Result<Vec<Value>, Stop> {
     Ok(values)
 }
 
-/// The distinct results of a well-typed normal term in the order met, `variants` taking its members in
-/// order, or the first stuck step. `args` are the values of its arguments, of the types of these. The time
-/// is that of one run for each choice of members.
+/// The distinct results of a well-typed normal term in the order met, `variants` taking its members
+/// in order, or the first stuck step. `args` are the values of its arguments, of the types of
+/// these. The time is that of one run for each choice of members.
 pub fn eval(alloc: Global, term: &LinTerm, args: &Vec<Value>) -> Result<Vec<Value>, EvalErr> {
     let mut machine = Machine::new(alloc);
     machine.begin(term).map_err(Stop::from)?;

@@ -14,8 +14,8 @@ const EMPTY: Slot = Slot {
     number: u32::MAX,
 };
 
-/// A table of slots, at most half of them taken. What has a hash stands in the first slot that was free
-/// from the place on that the hash gives.
+/// A table of slots, at most half of them taken. What has a hash stands in the first slot that was
+/// free from the place on that the hash gives.
 #[derive(Drop)]
 pub struct Slots {
     all: Vec<Slot>,

@@ -133,7 +133,8 @@ impl<'a> Machine<'a> {
         Ok(self.words.word_since(from)?)
     }
 
-    /// The letters of a string's text, one space between two words; None where it holds a closed part.
+    /// The letters of a string's text, one space between two words; None where it holds a closed
+    /// part.
     pub fn text_of(&mut self, symbols: Range) -> Result<Option<Range>, Stop> {
         if !self.is_known(symbols) {
             return Ok(None);

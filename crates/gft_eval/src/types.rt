@@ -10,8 +10,8 @@ use std::alloc::Global;
 /// How many values a type has at most for them to be listed. Typing refuses earlier.
 const MOST: u64 = 1_048_576;
 
-/// Types, and the values of each, which stand one after the other. A type of which only the values are
-/// known is None.
+/// Types, and the values of each, which stand one after the other. A type of which only the values
+/// are known is None.
 #[derive(Drop)]
 pub struct Types<'a> {
     all: Vec<Option<&'a CType>>,
@@ -73,7 +73,8 @@ fn chosen(ranges: &[Range], place: usize, choice: u32) -> u32 {
 }
 
 impl<'a> Machine<'a> {
-    /// The number of a type, whose values are listed when it is met first. A recursion as deep as the type.
+    /// The number of a type, whose values are listed when it is met first. A recursion as deep as
+    /// the type.
     #[cycle(types)]
     pub fn type_number(&mut self, of: &'a CType) -> Result<u32, NoMemory> {
         match self.types.find(of) {

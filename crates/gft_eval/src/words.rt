@@ -91,7 +91,8 @@ impl Words {
         Ok(word)
     }
 
-    /// The word that the letters since that place are, which are forgotten where the word was there.
+    /// The word that the letters since that place are, which are forgotten where the word was
+    /// there.
     pub fn word_since(&mut self, from: u32) -> Result<u32, NoMemory> {
         let text = since(from, self.letters.len())?;
         let before = self.all.len();

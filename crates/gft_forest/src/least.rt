@@ -6,7 +6,8 @@ use std::alloc::Global;
 /// Stands for "none" where a table holds numbers.
 pub const NONE: u32 = u32::MAX;
 
-/// A length as a number of a table. Tables end before `NONE`: past that the answer is want of memory.
+/// A length as a number of a table. Tables end before `NONE`: past that the answer is want of
+/// memory.
 pub fn count(length: usize) -> Result<u32, NoMemory> {
     match u32::try_from(length) {
         Ok(number) if number < NONE => Ok(number),
@@ -28,7 +29,8 @@ struct Waiting {
     /// For each alternative its node, and how many of its children have no depth yet.
     owners: Vec<u32>,
     missing: Vec<u32>,
-    /// For each node the last use as a child, and for each use the one before it and its alternative.
+    /// For each node the last use as a child, and for each use the one before it and its
+    /// alternative.
     last: Vec<u32>,
     before: Vec<u32>,
     users: Vec<u32>,
@@ -156,8 +158,8 @@ impl Waiting {
     }
 }
 
-/// For each node the least depth of a run that it holds, holes counting 1, or `NONE` where it holds none.
-/// Linear in the forest.
+/// For each node the least depth of a run that it holds, holes counting 1, or `NONE` where it holds
+/// none. Linear in the forest.
 pub fn least_depths(alloc: Global, f: &Forest) -> Result<Vec<u32>, NoMemory> {
     let mut waiting = Waiting::new(alloc, count(f.nodes.len())?)?;
     let hole = waiting.hole;

@@ -9,7 +9,8 @@ use std::alloc::Global;
 /// A run, by number among the runs of a list.
 #[derive(Clone, Copy)]
 pub enum PackedRun {
-    /// A production, the number of its arguments, and where their runs begin in `PackedRuns::children`.
+    /// A production, the number of its arguments, and where their runs begin in
+    /// `PackedRuns::children`.
     App(u32, u32, u32),
     /// The literal that an alternative of a node of the forest is: node and alternative.
     Literal(u32, u32),
@@ -120,7 +121,8 @@ impl Builder {
         for child in children {
             let nonterminal = match arguments.get(at) {
                 Some(&nonterminal) => nonterminal,
-                // excluded by the forest: an application has as many children as its production has arguments
+                // excluded by the forest: an application has as many children as its production has
+                // arguments
                 None => NONE,
             };
             self.choose(*child, nonterminal)?;
@@ -332,8 +334,8 @@ fn all_packed(alloc: Global, f: &Forest, c: &Concrete, depth: u32) -> Result<Pac
     Ok(packed)
 }
 
-/// Each run of the forest of at most that depth, holes counting 1, once. The runs of a node within a depth
-/// are made once, however many runs share them.
+/// Each run of the forest of at most that depth, holes counting 1, once. The runs of a node within
+/// a depth are made once, however many runs share them.
 pub fn packed_within(
     alloc: Global,
     f: &Forest,

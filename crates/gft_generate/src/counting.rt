@@ -93,8 +93,9 @@ fn none(alloc: Global, abs: &Abstract) -> Result<Vec<Number>, NoMemory> {
     Ok(numbers)
 }
 
-/// How many trees of the category there are within the depth, a number past 2^64 - 1 being that. None where
-/// a type on the way takes indices. The time is that of going through all types once for each level.
+/// How many trees of the category there are within the depth, a number past 2^64 - 1 being that.
+/// None where a type on the way takes indices. The time is that of going through all types once for
+/// each level.
 pub fn count(
     alloc: Global,
     abs: &Abstract,

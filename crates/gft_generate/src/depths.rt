@@ -4,8 +4,8 @@ use gft_core::NoMemory;
 use gft_pmcfg::{AType, Abstract, Fun};
 use std::alloc::Global;
 
-/// By category, the depth of its least deep trees and of its deepest ones within the depth that was asked
-/// for. Both are 0 where there are none.
+/// By category, the depth of its least deep trees and of its deepest ones within the depth that was
+/// asked for. Both are 0 where there are none.
 #[derive(Drop)]
 pub struct Depths {
     least: Vec<u32>,
@@ -85,7 +85,8 @@ impl Depths {
         improve(&mut self.most, cat, most, false) || is_less
     }
 
-    /// The depth within which all trees of a category within that depth are. 0 where there are none.
+    /// The depth within which all trees of a category within that depth are. 0 where there are
+    /// none.
     pub fn within(&self, cat: u32, depth: u32) -> u32 {
         let least = at(self.least.as_slice(), cat);
         if least == 0 || least > depth {

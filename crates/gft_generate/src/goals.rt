@@ -3,8 +3,8 @@ use gft_abs::NONE;
 use gft_core::NoMemory;
 use std::alloc::Global;
 
-/// A node that has to become a closed tree of a category, within a depth; its type has the indices that
-/// stand in the table of indices from there on.
+/// A node that has to become a closed tree of a category, within a depth; its type has the indices
+/// that stand in the table of indices from there on.
 #[derive(Clone, Copy)]
 pub struct Goal {
     pub node: u32,
@@ -14,14 +14,16 @@ pub struct Goal {
     count: u32,
 }
 
-/// Goals that share no variable with those of other parts, by where they stand in the table of lists.
+/// Goals that share no variable with those of other parts, by where they stand in the table of
+/// lists.
 #[derive(Clone, Copy)]
 pub struct Part {
     first: u32,
     count: u32,
 }
 
-/// Goals with the indices of their types, lists of goals, and parts. Nothing is taken out but from the end.
+/// Goals with the indices of their types, lists of goals, and parts. Nothing is taken out but from
+/// the end.
 #[derive(Drop)]
 pub struct Goals {
     goals: Vec<Goal>,

@@ -13,8 +13,8 @@ pub enum Head {
     Word(u32),
 }
 
-/// The heads of each category, category by category, and in each by the function that stands first in the
-/// first index of the head's type: those without such a function, then by its number.
+/// The heads of each category, category by category, and in each by the function that stands first
+/// in the first index of the head's type: those without such a function, then by its number.
 #[derive(Drop)]
 pub struct Heads {
     all: Vec<(u64, Head)>,

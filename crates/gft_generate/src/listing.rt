@@ -88,8 +88,8 @@ fn is_over(
     Ok(tally.count(&mut space, part)? > MOST)
 }
 
-/// All trees within the depth. Where there are too many, those of a small depth show it: the depths are tried
-/// one after another, and what was counted for one is known for the next.
+/// All trees within the depth. Where there are too many, those of a small depth show it: the depths
+/// are tried one after another, and what was counted for one is known for the next.
 fn deepened(
     alloc: Global,
     tables: &Tables,
@@ -107,10 +107,10 @@ fn deepened(
     counted(alloc, tables, abs, &mut tally, cat, within)
 }
 
-/// The closed trees of a category that have a type and at most this depth, and whose literals are 0, `"x"`
-/// and those that stand in types: each once, in byte order of their texts. None exactly where there are over
-/// 100,000; they are counted before one is made. The category is in range. Beside the counting, the time is
-/// that of the trees.
+/// The closed trees of a category that have a type and at most this depth, and whose literals are
+/// 0, `"x"` and those that stand in types: each once, in byte order of their texts. None exactly
+/// where there are over 100,000; they are counted before one is made. The category is in range.
+/// Beside the counting, the time is that of the trees.
 pub fn trees(
     alloc: Global,
     abs: &Abstract,

@@ -68,7 +68,8 @@ impl<'a> Space<'a> {
         self.goals.undo(moment.place);
     }
 
-    /// Adds a part with one goal: a tree of a category, of any type. None where there is none within the depth.
+    /// Adds a part with one goal: a tree of a category, of any type. None where there is none
+    /// within the depth.
     pub fn add_root(&mut self, cat: u32, depth: u32) -> Result<Option<(u32, Part)>, NoMemory> {
         let node = self.terms.variable()?;
         let mut indices: Vec<u32> = Vec::new(self.alloc);
@@ -133,8 +134,8 @@ impl<'a> Space<'a> {
         }
     }
 
-    /// The place of the goal of a part that gets its head first: one to which the fewest heads fit. Among these
-    /// the last one that no index of another goal's type speaks of, else the last one.
+    /// The place of the goal of a part that gets its head first: one to which the fewest heads fit.
+    /// Among these the last one that no index of another goal's type speaks of, else the last one.
     pub fn pick(&mut self, part: Part) -> Result<u32, NoMemory> {
         let goals = self.others(part, NONE)?;
         if goals.len() < 2 {
@@ -166,8 +167,8 @@ impl<'a> Space<'a> {
         Ok(spoken)
     }
 
-    /// Twice the number of heads that fit a goal, and one more where an index speaks of it. Where that is more
-    /// than another goal's, it is only known to be so.
+    /// Twice the number of heads that fit a goal, and one more where an index speaks of it. Where
+    /// that is more than another goal's, it is only known to be so.
     fn rank(&mut self, number: u32, spoken: &IndexSet<u32>, least: u32) -> Result<u32, NoMemory> {
         let Some(goal) = self.goals.goal(number) else {
             return Ok(NONE);
@@ -219,8 +220,9 @@ impl<'a> Space<'a> {
         }
     }
 
-    /// Gives a goal of a part a head. The parts of what is still to be filled then: the goals of the
-    /// head's arguments and the other ones of the part. None where the types clash or there is no room.
+    /// Gives a goal of a part a head. The parts of what is still to be filled then: the goals of
+    /// the head's arguments and the other ones of the part. None where the types clash or there is
+    /// no room.
     pub fn put_head(
         &mut self,
         part: Part,
@@ -264,7 +266,8 @@ impl<'a> Space<'a> {
         Ok(Some(Parts { next, end }))
     }
 
-    /// Makes a head that of a goal's node, and adds the goals of its arguments. False where it cannot be.
+    /// Makes a head that of a goal's node, and adds the goals of its arguments. False where it
+    /// cannot be.
     fn fits(&mut self, goal: Goal, head: Head, list: &mut Vec<u32>) -> Result<bool, NoMemory> {
         let tables = self.tables;
         match head {

@@ -47,8 +47,8 @@ fn replaced(
     Ok(all)
 }
 
-/// Makes one goal of two of one node: a tree has one type, and the less deep goal counts. None where the
-/// types clash.
+/// Makes one goal of two of one node: a tree has one type, and the less deep goal counts. None
+/// where the types clash.
 fn joined(
     terms: &mut Terms<'_>,
     goals: &mut Goals,
@@ -76,7 +76,8 @@ fn joined(
     Ok(Some(replaced(alloc, list, first, second, goal)?))
 }
 
-/// The goals, with one for each node. None where the types of a node's goals clash. Each turn takes a goal away.
+/// The goals, with one for each node. None where the types of a node's goals clash. Each turn takes
+/// a goal away.
 pub fn join_twins(
     terms: &mut Terms<'_>,
     goals: &mut Goals,
@@ -134,7 +135,8 @@ fn label(
     Ok(())
 }
 
-/// A label for each goal of a list: goals have one label where they share variables, or others between them do.
+/// A label for each goal of a list: goals have one label where they share variables, or others
+/// between them do.
 fn labels_of(terms: &Terms<'_>, goals: &Goals, list: &[u32]) -> Result<Vec<u32>, NoMemory> {
     let alloc = terms.alloc();
     let mut owners: IndexMap<u32, u32> = IndexMap::new(alloc);

@@ -1,5 +1,5 @@
-//! How many fillings there are, counted before any tree is made: goals that share no variable are counted
-//! apart, and goals that are alike are counted once.
+//! How many fillings there are, counted before any tree is made: goals that share no variable are
+//! counted apart, and goals that are alike are counted once.
 use crate::goals::Part;
 use crate::heads::Span;
 use crate::space::{Moment, Parts, Space};
@@ -14,8 +14,8 @@ pub const MOST: u64 = 100_000;
 /// One more: that many or more.
 const TOO_MANY: u64 = 100_001;
 
-/// What is known of parts of one key: how many fillings they have, at most `TOO_MANY`; the place of the goal
-/// that gets its head first, and where the heads stand that lead to fillings.
+/// What is known of parts of one key: how many fillings they have, at most `TOO_MANY`; the place of
+/// the goal that gets its head first, and where the heads stand that lead to fillings.
 #[derive(Clone, Copy)]
 pub struct Record {
     pub count: u64,
@@ -82,7 +82,8 @@ impl Tally {
         }
     }
 
-    /// How many fillings a part has, at most 100,001. Depths fall and goals go, so it ends by itself.
+    /// How many fillings a part has, at most 100,001. Depths fall and goals go, so it ends by
+    /// itself.
     pub fn count(&mut self, space: &mut Space<'_>, part: Part) -> Result<u64, NoMemory> {
         self.begin(space, part)?;
         'steps: for _ in 0..u64::MAX {

@@ -14,7 +14,8 @@ struct Cell {
     next: u32,
 }
 
-/// A part whose goal has further heads: the heads by their places, the parts after it, and how far everything was.
+/// A part whose goal has further heads: the heads by their places, the parts after it, and how far
+/// everything was.
 #[derive(Clone, Copy)]
 struct Choice {
     part: Part,
@@ -61,7 +62,8 @@ impl Walk {
         Ok(())
     }
 
-    /// The next tree. None after the last one. Each choice has finitely many heads, so it ends by itself.
+    /// The next tree. None after the last one. Each choice has finitely many heads, so it ends by
+    /// itself.
     pub fn next(&mut self, space: &mut Space<'_>, tally: &Tally) -> Result<Option<Tree>, NoMemory> {
         'steps: for _ in 0..u64::MAX {
             if self.back {

@@ -78,7 +78,8 @@ fn is_possible(tables: &Tables, places: &Places, depth: u32) -> bool {
     true
 }
 
-/// The places of a pattern's holes. None where some hole by itself cannot be filled, or the pattern is too deep.
+/// The places of a pattern's holes. None where some hole by itself cannot be filled, or the pattern
+/// is too deep.
 fn places_of(
     alloc: Global,
     tables: &Tables,
@@ -206,8 +207,9 @@ fn literal(alloc: Global, is_text: bool) -> Result<Tree, NoMemory> {
     Ok(Tree::Int(0))
 }
 
-/// Whether a pattern has a closed well-typed instance as `fill` gives it, over tables of the concrete syntax. Where no category of
-/// the grammar takes indices, time is the size of the pattern.
+/// Whether a pattern has a closed well-typed instance as `fill` gives it, over tables of the
+/// concrete syntax. Where no category of the grammar takes indices, time is the size of the
+/// pattern.
 pub fn can_fill(
     alloc: Global,
     tables: &Tables,
@@ -262,8 +264,9 @@ fn filled(
     Ok(None)
 }
 
-/// A closed well-typed instance of the pattern within the depth whose subtree at each hole has a run without holes to its
-/// nonterminal; None exactly where there is none. `holes` has each hole once, with its nonterminal.
+/// A closed well-typed instance of the pattern within the depth whose subtree at each hole has a
+/// run without holes to its nonterminal; None exactly where there is none. `holes` has each hole
+/// once, with its nonterminal.
 pub fn fill(
     alloc: Global,
     g: &Grammar,

@@ -3,8 +3,8 @@ use gft_abs::NONE;
 use gft_core::NoMemory;
 use std::alloc::Global;
 
-/// A node that has to become a closed tree with a run to a nonterminal, within a depth; its type has the indices that stand in the
-/// table of indices from there on.
+/// A node that has to become a closed tree with a run to a nonterminal, within a depth; its type
+/// has the indices that stand in the table of indices from there on.
 #[derive(Clone, Copy)]
 pub struct Goal {
     pub node: u32,

@@ -119,7 +119,8 @@ impl Waiting {
     }
 }
 
-/// For each nonterminal the least depth of a run without holes, `NONE` where it has none. Linear in the productions.
+/// For each nonterminal the least depth of a run without holes, `NONE` where it has none. Linear in
+/// the productions.
 pub fn least_depths(alloc: Global, c: &Concrete, total: u32) -> Result<Vec<u32>, NoMemory> {
     let mut waiting = Waiting::new(alloc, total)?;
     'productions: for production in c.prods.as_slice() {

@@ -1,4 +1,5 @@
-//! The search for closed trees: the last open goal first, with what its head fixes kept for the others.
+//! The search for closed trees: the last open goal first, with what its head fixes kept for the
+//! others.
 use crate::goals::{Goal, Goals, Place};
 use crate::shapes::{add_variables, key_of};
 use crate::tables::Tables;
@@ -16,8 +17,8 @@ enum Known {
     Empty,
 }
 
-/// A goal that was begun with one candidate, where others are left: the goals beside it, the next candidate, and how far
-/// everything was before.
+/// A goal that was begun with one candidate, where others are left: the goals beside it, the next
+/// candidate, and how far everything was before.
 #[derive(Clone, Copy)]
 struct Choice {
     goal: u32,
@@ -28,8 +29,8 @@ struct Choice {
     parts: usize,
 }
 
-/// Goals that share no variable with those that come after them: the list of these, how many choices there were, and the place
-/// of their key.
+/// Goals that share no variable with those that come after them: the list of these, how many
+/// choices there were, and the place of their key.
 #[derive(Clone, Copy)]
 struct Part {
     rest: u32,
@@ -164,7 +165,8 @@ impl<'a> Search<'a> {
         }
     }
 
-    /// The goals that share variables with the first one, over others (`inside`), and those that do not.
+    /// The goals that share variables with the first one, over others (`inside`), and those that do
+    /// not.
     fn spread(
         &self,
         list: &[u32],
@@ -246,8 +248,8 @@ impl<'a> Search<'a> {
         Ok(())
     }
 
-    /// The goal to be taken next, by its place in a list: one whose head is known, else the first that is no open literal. None
-    /// where all are open literals.
+    /// The goal to be taken next, by its place in a list: one whose head is known, else the first
+    /// that is no open literal. None where all are open literals.
     fn pick(&self, list: &[u32]) -> Option<usize> {
         let mut picked = None;
         'goals: for place in 0..list.len() {
@@ -462,8 +464,8 @@ impl<'a> Search<'a> {
         self.literals.get(&variable).copied().unwrap_or(false)
     }
 
-    /// Whether all goals can be filled at once. Each choice has finitely many candidates, and depths only fall, so the search
-    /// ends by itself.
+    /// Whether all goals can be filled at once. Each choice has finitely many candidates, and
+    /// depths only fall, so the search ends by itself.
     pub fn run(&mut self) -> Result<bool, NoMemory> {
         'steps: for _ in 0..u64::MAX {
             match self.step()? {

@@ -1,4 +1,5 @@
-//! The nodes under goals: which variables stand there, and what is alike whatever the variables are called.
+//! The nodes under goals: which variables stand there, and what is alike whatever the variables are
+//! called.
 use crate::goals::{Goal, Goals};
 use gft_abs::{Node, Terms};
 use gft_core::NoMemory;
@@ -117,7 +118,8 @@ fn push_new(
     }
 }
 
-/// Adds a goal to a key: its nonterminal and depth, and its nodes, each that was met before by its number.
+/// Adds a goal to a key: its nonterminal and depth, and its nodes, each that was met before by its
+/// number.
 fn push_key(
     terms: &Terms<'_>,
     goals: &Goals,

@@ -12,8 +12,8 @@ pub struct Candidate {
     pub least: u32,
 }
 
-/// The least depth of a run without holes of each nonterminal, and the productions that begin such runs: by their result, then
-/// by that depth, then in file order.
+/// The least depth of a run without holes of each nonterminal, and the productions that begin such
+/// runs: by their result, then by that depth, then in file order.
 #[derive(Drop)]
 pub struct Tables {
     least: Vec<u32>,

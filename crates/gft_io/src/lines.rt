@@ -20,7 +20,8 @@ const INPUT_LIMIT: u64 = 67_108_864;
 
 /// Why there is no next line. `ReadFault`: the source failed; a next call goes on. `InputLimit`:
 /// the next line does not end within 67,108,864 bytes; each later call answers this too.
-/// `LineTooLong`: it has over 65,536 bytes, and is skipped. After `NoMemory` it is open what is kept.
+/// `LineTooLong`: it has over 65,536 bytes, and is skipped. After `NoMemory` it is open what is
+/// kept.
 #[derive(Clone, Copy, Debug, PartialEq, Eq)]
 pub enum LineErr {
     ReadFault,

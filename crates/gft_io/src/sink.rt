@@ -12,7 +12,8 @@ pub trait Sink {
     /// How often it failed; an adapter's stands at 2^64 - 1 once it is there.
     ghost faults: { Self → ℕ };
 
-    /// Appends the front of the piece, and answers how many bytes that is. A failure appends nothing.
+    /// Appends the front of the piece, and answers how many bytes that is. A failure appends
+    /// nothing.
     fn write(&mut self, piece: &[u8]) -> Result<usize, Failed>
         requires { 0 < length piece.now }
         ensures bound { IfOk result (λ n. (0 < n) × (n ≤ length piece.now)) }

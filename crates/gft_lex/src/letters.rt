@@ -13,7 +13,8 @@ use std::alloc::Global;
 /// Past all characters.
 const NO_CHARACTER: u32 = 1_114_112;
 
-/// What a byte that is read alone stands as: itself, where it is a character, or a number past all characters.
+/// What a byte that is read alone stands as: itself, where it is a character, or a number past all
+/// characters.
 fn loose(byte: u8) -> u32
     ensures { result ≡ loose byte }
 {
@@ -34,7 +35,8 @@ fn text_at_front(bytes: &[u8]) -> &str
     }
 }
 
-/// The characters of a file. From the first byte on that begins none, its bytes are read one by one.
+/// The characters of a file. From the first byte on that begins none, its bytes are read one by
+/// one.
 pub(crate) fn letters_of(alloc: Global, bytes: &[u8]) -> Result<Vec<u32>, NoMemory>
     ensures { IfOk result (λ letters. letters.items ≡ text_of bytes.now) }
 {

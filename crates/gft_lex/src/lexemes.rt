@@ -55,7 +55,8 @@ pub(crate) fn name_length(letters: &[u32]) -> usize
         .unwrap_or(letters.len())
 }
 
-/// How many characters a text has after its opening quote, up to and with the closing one, where it is closed on its line.
+/// How many characters a text has after its opening quote, up to and with the closing one, where it
+/// is closed on its line.
 pub(crate) fn closing(letters: &[u32]) -> Option<usize>
     ensures value { result ≡ closing_on 0 false letters.now }
     ensures within { IfSome result (λ n. n ≤ length letters.now) }

@@ -61,8 +61,8 @@ fn walk(alloc: Global, file: u32, letters: &[u32]) -> Result<Vec<SourceToken>, S
     }
 }
 
-/// The tokens of a file in order, each the longest that begins at its place, or the first fault of its characters. The file is
-/// the number that places have. One walk over the file.
+/// The tokens of a file in order, each the longest that begins at its place, or the first fault of
+/// its characters. The file is the number that places have. One walk over the file.
 pub fn lex(alloc: Global, file: u32, bytes: &Vec<u8>) -> Result<Vec<SourceToken>, Stop>
     requires { vec_len bytes.now < 2 ^ 32 }
     ensures tokens { IfOk result (λ tokens. Tokens file bytes.now.items tokens.items) }

@@ -4,7 +4,8 @@ use gft_core::{Name, NoMemory, Tree};
 use gft_pmcfg::{Abstract, Fun};
 use std::alloc::Global;
 
-/// Whether the function has so many arguments and gives a tree of the category, where one is wanted.
+/// Whether the function has so many arguments and gives a tree of the category, where one is
+/// wanted.
 fn fits(fun: &Fun, count: usize, wanted: Option<u32>) -> bool {
     match wanted {
         None => fun.args.len() == count,
@@ -51,7 +52,8 @@ fn push_application(
     Ok(true)
 }
 
-/// Adds the functions of a tree. False where a part is a literal or a hole, or does not fit its place.
+/// Adds the functions of a tree. False where a part is a literal or a hole, or does not fit its
+/// place.
 #[cycle(push)]
 fn push_tree(
     abs: &Abstract,
@@ -67,9 +69,9 @@ fn push_tree(
     }
 }
 
-/// The numbers of the functions of a tree, each after those of its arguments. None where a part of the tree
-/// is a literal or a hole, has another number of arguments than its function, or is of another category than
-/// its place. The stack that it takes grows with the tree's depth.
+/// The numbers of the functions of a tree, each after those of its arguments. None where a part of
+/// the tree is a literal or a hole, has another number of arguments than its function, or is of
+/// another category than its place. The stack that it takes grows with the tree's depth.
 pub fn functions_of(
     alloc: Global,
     abs: &Abstract,

@@ -5,7 +5,8 @@ use gft_pmcfg::{Abstract, CArg, CProd, Coerced};
 use sqlite_items::Items;
 use std::alloc::Global;
 
-/// How many productions are looked at one after the other. Among more, those that fit are found by halving.
+/// How many productions are looked at one after the other. Among more, those that fit are found by
+/// halving.
 const FEW: usize = 8;
 
 /// The shared productions of a concrete syntax by their functions, made once for many trees.
@@ -16,8 +17,8 @@ pub struct Index {
 }
 
 impl Index {
-    /// The index of a concrete syntax. The time grows with the functions, times the logarithm of the
-    /// productions.
+    /// The index of a concrete syntax. The time grows with the functions, times the logarithm of
+    /// the productions.
     pub fn new(alloc: Global, abs: &Abstract, c: &Coerced) -> Result<Index, NoMemory> {
         let prods = c.prods.as_slice();
         let mut starts = Vec::new(alloc);
@@ -88,8 +89,8 @@ fn only_of_few(
     found
 }
 
-/// The place of the one production of a range that takes these arguments. None where there is none, and
-/// where there are several.
+/// The place of the one production of a range that takes these arguments. None where there is none,
+/// and where there are several.
 pub fn only(
     alloc: Global,
     shared: &[CProd],

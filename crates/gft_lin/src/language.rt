@@ -1,4 +1,5 @@
-//! What a concrete syntax has for a function, a category and a nonterminal, found by halving its lists.
+//! What a concrete syntax has for a function, a category and a nonterminal, found by halving its
+//! lists.
 use crate::members::matching;
 use gft_core::{Name, NoMemory, Shared, Sym};
 use gft_pmcfg::{Abstract, CProd, Coerced, Concrete, Def, Fun, Info, Prod, Ref};
@@ -12,8 +13,8 @@ pub struct Found<'a> {
     pub seqs: &'a [Shared<Items<Sym>>],
 }
 
-/// An abstract syntax with the lists of one of its concrete syntaxes. Its productions are in one of two
-/// lists, as they are or shared, and the other list is empty.
+/// An abstract syntax with the lists of one of its concrete syntaxes. Its productions are in one of
+/// two lists, as they are or shared, and the other list is empty.
 #[derive(Clone, Copy)]
 pub struct Language<'a> {
     abs: &'a Abstract,

@@ -17,8 +17,8 @@ pub use index::Index;
 use language::Language;
 use std::alloc::Global;
 
-/// The distinct strings of a tree, in byte order of their texts. `cat` is the category of a tree that is
-/// one hole. The time grows with the values of the subtrees, each of which is made once.
+/// The distinct strings of a tree, in byte order of their texts. `cat` is the category of a tree
+/// that is one hole. The time grows with the values of the subtrees, each of which is made once.
 pub fn strings(
     alloc: Global,
     g: &Grammar,
@@ -35,8 +35,8 @@ pub fn strings(
     }
 }
 
-/// The string cells of each distinct value of a tree, in the order of the cases and then of the texts of
-/// the cells. `cat` is the category of a tree that is one hole.
+/// The string cells of each distinct value of a tree, in the order of the cases and then of the
+/// texts of the cells. `cat` is the category of a tree that is one hole.
 pub fn cells_of(
     alloc: Global,
     g: &Grammar,
@@ -53,8 +53,8 @@ pub fn cells_of(
     }
 }
 
-/// What `strings` gives for the concrete syntax in which each production stands once for each choice of
-/// members of its groups.
+/// What `strings` gives for the concrete syntax in which each production stands once for each
+/// choice of members of its groups.
 pub fn strings_of(
     alloc: Global,
     c: &Coerced,
@@ -66,7 +66,8 @@ pub fn strings_of(
     lines::lines(alloc, &language, cat, tree)
 }
 
-/// The distinct texts of the strings of a tree, in byte order: those of `strings_of`, each as one text.
+/// The distinct texts of the strings of a tree, in byte order: those of `strings_of`, each as one
+/// text.
 pub fn texts_of(
     alloc: Global,
     c: &Coerced,
@@ -78,9 +79,10 @@ pub fn texts_of(
     lines::texts_of(alloc, &language, cat, tree)
 }
 
-/// What `texts_of` gives for the tree with these functions, each after those of its arguments, over the index
-/// of the concrete syntax. None where some part has no production or several, so that only `texts_of` says the
-/// tree. The time is that of the tree and of the words of the texts times the depth.
+/// What `texts_of` gives for the tree with these functions, each after those of its arguments, over
+/// the index of the concrete syntax. None where some part has no production or several, so that
+/// only `texts_of` says the tree. The time is that of the tree and of the words of the texts times
+/// the depth.
 pub fn texts_of_functions(
     alloc: Global,
     c: &Coerced,
@@ -90,9 +92,9 @@ pub fn texts_of_functions(
     lines::texts_of_parts(alloc, c, index, functions)
 }
 
-/// The distinct texts of a tree with brackets that show which words are of which part of it, in byte order.
-/// A bracket has the part's head (a function's name, a literal's text, or a hole), then its words and inner
-/// brackets. `cat` is the category of a tree that is one hole.
+/// The distinct texts of a tree with brackets that show which words are of which part of it, in
+/// byte order. A bracket has the part's head (a function's name, a literal's text, or a hole), then
+/// its words and inner brackets. `cat` is the category of a tree that is one hole.
 pub fn bracketed(
     alloc: Global,
     g: &Grammar,
@@ -109,8 +111,8 @@ pub fn bracketed(
     }
 }
 
-/// What `bracketed` gives for the concrete syntax in which each production stands once for each choice of
-/// members of its groups.
+/// What `bracketed` gives for the concrete syntax in which each production stands once for each
+/// choice of members of its groups.
 pub fn bracketed_of(
     alloc: Global,
     c: &Coerced,

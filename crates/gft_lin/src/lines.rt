@@ -80,8 +80,8 @@ pub fn texts_of(
     as_texts(alloc, texts(alloc, language, found.as_slice())?.as_slice())
 }
 
-/// The distinct texts of the strings of the tree with these functions, in byte order. None where some part
-/// has no production or several.
+/// The distinct texts of the strings of the tree with these functions, in byte order. None where
+/// some part has no production or several.
 pub fn texts_of_parts(
     alloc: Global,
     c: &Coerced,

@@ -30,8 +30,8 @@ fn key_at(shared: &[CProd], at: usize, place: usize) -> Key {
     }
 }
 
-/// The first place of the range whose argument is not before the key, by halving; the end where there is
-/// none.
+/// The first place of the range whose argument is not before the key, by halving; the end where
+/// there is none.
 fn first_from(shared: &[CProd], range: Range, place: usize, key: Key) -> usize {
     let mut from = range.from;
     let mut to = range.to;
@@ -64,8 +64,8 @@ pub fn is_member(groups: &[Items<u32>], group: u64, nonterminal: u32) -> bool {
     }
 }
 
-/// Adds the part of the range whose argument at the place is the nonterminal itself, and answers where the
-/// groups begin.
+/// Adds the part of the range whose argument at the place is the nonterminal itself, and answers
+/// where the groups begin.
 fn add_one(
     shared: &[CProd],
     range: Range,

@@ -6,8 +6,8 @@ use gft_pmcfg::{CProd, Coerced, Ref};
 use sqlite_items::Items;
 use std::alloc::Global;
 
-/// A part of a tree: the place of its production, and where its arguments and the lengths of its components
-/// begin.
+/// A part of a tree: the place of its production, and where its arguments and the lengths of its
+/// components begin.
 #[derive(Clone, Copy)]
 struct Part {
     production: usize,
@@ -203,8 +203,8 @@ impl Parts {
         }
     }
 
-    /// The text of symbols. What has no words is left aside, so each step leads to some word, and the steps
-    /// are as many as the words times the depth.
+    /// The text of symbols. What has no words is left aside, so each step leads to some word, and
+    /// the steps are as many as the words times the depth.
     fn text<'a>(
         &self,
         alloc: Global,
@@ -271,8 +271,8 @@ fn parts_of(
     Ok(Some(parts))
 }
 
-/// The texts of the strings of the tree with these functions, each after those of its arguments. None where
-/// some part has no production or several.
+/// The texts of the strings of the tree with these functions, each after those of its arguments.
+/// None where some part has no production or several.
 pub fn strings_of_parts(
     alloc: Global,
     c: &Coerced,

@@ -2,8 +2,8 @@
 use gft_core::{NoMemory, Sym};
 use std::alloc::Global;
 
-/// A nonterminal with its components, each the text of its words. Values are in order by their case and
-/// then by the texts.
+/// A nonterminal with its components, each the text of its words. Values are in order by their case
+/// and then by the texts.
 #[derive(PartialEq, Eq, PartialOrd, Ord, Drop)]
 pub struct Value {
     pub nonterminal: u32,
@@ -55,7 +55,8 @@ pub fn put(
     Ok(text)
 }
 
-/// The text in brackets: a bracket, the head of the part of the tree that it is of, the text, a bracket.
+/// The text in brackets: a bracket, the head of the part of the tree that it is of, the text, a
+/// bracket.
 fn in_brackets(alloc: Global, head: &str, text: &str) -> Result<String, NoMemory> {
     let mut whole = String::new(alloc);
     whole.push('(')?;

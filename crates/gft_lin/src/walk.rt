@@ -60,8 +60,8 @@ fn string(alloc: Global, language: &Language<'_>, token: &Token) -> Result<Vec<V
     word(alloc, language, 1, head.as_str(), text)
 }
 
-/// The value that a result gives where the arguments have the picked ones of these values; `head` is that
-/// of the tree.
+/// The value that a result gives where the arguments have the picked ones of these values; `head`
+/// is that of the tree.
 fn value_of(
     alloc: Global,
     language: &Language<'_>,
@@ -145,8 +145,8 @@ fn nonterminals(alloc: Global, kids: &[Vec<Value>], picks: &[usize]) -> Result<V
     Ok(all)
 }
 
-/// Adds the values of a function, by its name and number, whose arguments have the picked ones of these
-/// values.
+/// Adds the values of a function, by its name and number, whose arguments have the picked ones of
+/// these values.
 fn add_results(
     alloc: Global,
     language: &Language<'_>,
@@ -215,8 +215,8 @@ fn values_of_application(
     }
 }
 
-/// The distinct values of a tree, in order; `cat` is its category. The stack that it takes grows with the
-/// tree's depth.
+/// The distinct values of a tree, in order; `cat` is its category. The stack that it takes grows
+/// with the tree's depth.
 #[cycle(values)]
 pub fn values(
     alloc: Global,

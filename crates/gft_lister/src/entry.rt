@@ -4,8 +4,8 @@ use gft_pmcfg::Abstract;
 use sqlite_items::Items;
 use std::alloc::Global;
 
-/// A pattern: the numbers of its functions, each after those of its arguments, where it has no literals and
-/// holes and no category takes indices; else a tree.
+/// A pattern: the numbers of its functions, each after those of its arguments, where it has no
+/// literals and holes and no category takes indices; else a tree.
 #[derive(Drop)]
 pub enum Form {
     Functions(Vec<u32>),

@@ -11,8 +11,8 @@ use gft_inhabit::can_fill;
 use gft_pmcfg::{Concrete, Forest, Grammar};
 use std::alloc::Global;
 
-/// What `parse` lists, or its notice: the number of the first word, from 1, after which no sentence goes on; that the words
-/// are no sentence yet; that no pattern is listed.
+/// What `parse` lists, or its notice: the number of the first word, from 1, after which no sentence
+/// goes on; that the words are no sentence yet; that no pattern is listed.
 #[derive(Drop)]
 pub enum Listing {
     Trees(Vec<Tree>),
@@ -30,7 +30,8 @@ pub enum Entries {
     NoTree,
 }
 
-/// Tables of a language, made once for many texts. They share their parts, so that a copy takes no memory.
+/// Tables of a language, made once for many texts. They share their parts, so that a copy takes no
+/// memory.
 #[derive(Drop)]
 pub struct Tables {
     chart: Shared<gft_chart::Tables>,
@@ -55,7 +56,8 @@ impl Tables {
     }
 }
 
-/// Reads words, and gives the number of the first that no sentence allows, from 1; 0 where all are allowed.
+/// Reads words, and gives the number of the first that no sentence allows, from 1; 0 where all are
+/// allowed.
 fn read_all(chart: &mut Chart<'_>, words: &[Token]) -> Result<u32, NoMemory> {
     let mut number = 0u32;
     'words: for word in words {
@@ -140,8 +142,8 @@ fn add_plain(
     }
 }
 
-/// Adds the pattern of a run, if it has a type and can be filled. One pattern may come of several runs, of which one that can be
-/// filled is enough.
+/// Adds the pattern of a run, if it has a type and can be filled. One pattern may come of several
+/// runs, of which one that can be filled is enough.
 fn add_solved(
     alloc: Global,
     given: Given<'_>,
@@ -241,7 +243,8 @@ fn listing_of(alloc: Global, g: &Grammar, entries: Entries) -> Result<Listing, N
     }
 }
 
-/// The patterns of the words within the depth, each once, in byte order of their texts, over tables of the language.
+/// The patterns of the words within the depth, each once, in byte order of their texts, over tables
+/// of the language.
 pub fn list_with(
     alloc: Global,
     tables: &Tables,

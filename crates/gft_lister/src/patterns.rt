@@ -1,4 +1,5 @@
-//! The pattern of a run: its tree, with a hole of its own for each part that gives nothing to the words.
+//! The pattern of a run: its tree, with a hole of its own for each part that gives nothing to the
+//! words.
 use gft_core::{Name, NoMemory, Tree};
 use gft_forest::{PackedRun, PackedRuns};
 use gft_pmcfg::{Abstract, Alt, Concrete, Forest};
@@ -163,7 +164,8 @@ fn put(
     }
 }
 
-/// The pattern of a run. Its holes are numbered from 1 in the order of the text. The stack does not grow with its depth.
+/// The pattern of a run. Its holes are numbered from 1 in the order of the text. The stack does not
+/// grow with its depth.
 pub fn pattern_of(alloc: Global, source: Source<'_>, run: u32) -> Result<Pattern, NoMemory> {
     let mut parts = parts_of(alloc, source, run)?;
     let mut built: Vec<Tree> = Vec::new(alloc);

@@ -91,8 +91,8 @@ impl Speller {
         }
     }
 
-    /// Adds the function of a run, and leaves its arguments, the last on top. False where it is a literal
-    /// or a hole.
+    /// Adds the function of a run, and leaves its arguments, the last on top. False where it is a
+    /// literal or a hole.
     fn add(&mut self, source: Source<'_>, run: u32) -> Result<bool, NoMemory> {
         let Some(PackedRun::App(production, count, first)) = source.run(run) else {
             return Ok(false);
@@ -107,7 +107,8 @@ impl Speller {
         Ok(true)
     }
 
-    /// Finds the functions of a run, each after those of its arguments. False where it has literals or holes.
+    /// Finds the functions of a run, each after those of its arguments. False where it has literals
+    /// or holes.
     fn find(&mut self, source: Source<'_>, run: u32) -> Result<bool, NoMemory> {
         self.pending.truncate(0);
         self.functions.truncate(0);

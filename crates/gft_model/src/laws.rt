@@ -21,8 +21,8 @@ pub fn nonterminal_is_determined()
     ensures { NonterminalIsDetermined }
 {}
 
-/// The components that a closed tree has are those of a run of it: a choice of a production for each
-/// application.
+/// The components that a closed tree has are those of a run of it: a choice of a production for
+/// each application.
 pub fn value_is_of_run()
     ensures { ValueIsOfRun }
 {}
@@ -37,13 +37,14 @@ pub fn string_is_of_run()
     ensures { StringIsOfRun }
 {}
 
-/// The words that a run without holes is for are a string of its tree, where each production is of a
-/// function.
+/// The words that a run without holes is for are a string of its tree, where each production is of
+/// a function.
 pub fn run_gives_string()
     ensures { RunGivesString }
 {}
 
-/// A tree has at most one type, where functions are told apart by their names and each hole has one type.
+/// A tree has at most one type, where functions are told apart by their names and each hole has one
+/// type.
 pub fn type_is_determined()
     ensures { TypeIsDetermined }
 {}
@@ -63,8 +64,8 @@ pub fn listed_covers_tree()
     ensures { ListedCoversTree }
 {}
 
-/// A type with a flaw is not well formed, where functions are told apart by their names and each hole has
-/// one type.
+/// A type with a flaw is not well formed, where functions are told apart by their names and each
+/// hole has one type.
 pub fn flawed_is_no_type()
     ensures { FlawedIsNoType }
 {}

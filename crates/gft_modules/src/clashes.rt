@@ -9,8 +9,8 @@ pub struct Key {
     pub name: u32,
 }
 
-/// What a module has under a name so far: the number of the module of the header that gives it first,
-/// and the judgement.
+/// What a module has under a name so far: the number of the module of the header that gives it
+/// first, and the judgement.
 #[derive(Clone, Copy)]
 pub struct Standing {
     pub given: u32,
@@ -18,8 +18,8 @@ pub struct Standing {
     pub judgement: u32,
 }
 
-/// A name that clashes, by its number: of its pairs of modules the later one's place, and the two modules by their
-/// numbers among those that the header gives.
+/// A name that clashes, by its number: of its pairs of modules the later one's place, and the two
+/// modules by their numbers among those that the header gives.
 #[derive(Clone, Copy)]
 pub struct Clash {
     pub place: Place,

@@ -4,8 +4,8 @@ use gft_core::{Name, NoMemory, Place};
 use gft_syntax::{Judgement, Module, PlacedName};
 use std::alloc::Global;
 
-/// Judgements clash with those of their own space alone: each keyword of linearizations has one, and
-/// all that terms may name is in another.
+/// Judgements clash with those of their own space alone: each keyword of linearizations has one,
+/// and all that terms may name is in another.
 #[derive(Clone, Copy, Debug, PartialEq, Eq, Hash)]
 pub enum Space {
     Named,
@@ -193,8 +193,8 @@ impl Gathered {
     }
 }
 
-/// The names that the judgements of a module declare, in source order: of `cat [C]` ListC, BaseC and
-/// ConsC, of a parameter type its name and then its constructors. Flags declare none.
+/// The names that the judgements of a module declare, in source order: of `cat [C]` ListC, BaseC
+/// and ConsC, of a parameter type its name and then its constructors. Flags declare none.
 pub fn declared_of(alloc: Global, module: &Module) -> Result<Vec<Declared>, NoMemory> {
     let mut gathered = Gathered {
         all: Vec::new(alloc),

@@ -21,7 +21,8 @@ fn is_lower(a: &str, b: &str) -> bool {
     a.cmp(b) == Ordering::Less
 }
 
-/// The first fault of one rule that was seen: the least place, and there the least name in byte order.
+/// The first fault of one rule that was seen: the least place, and there the least name in byte
+/// order.
 #[derive(Clone, Copy)]
 pub struct First<'a> {
     pub place: Place,

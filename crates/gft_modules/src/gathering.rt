@@ -9,7 +9,8 @@ use indexmap::IndexMap;
 use std::alloc::Global;
 use std::cmp::Ordering;
 
-/// The number of what the module itself gives, and of the module of a copy that is still to be made.
+/// The number of what the module itself gives, and of the module of a copy that is still to be
+/// made.
 pub const OWN: u32 = u32::MAX;
 
 /// What is gathered: what stands under each name, the first clash, and the origins in order.
@@ -22,6 +23,7 @@ pub struct Gathering {
 }
 
 impl Gathering {
+    /// Nothing gathered yet.
     pub fn new(alloc: Global) -> Gathering {
         Gathering {
             names: Names::new(alloc),
@@ -96,6 +98,7 @@ impl Gathering {
         Ok(false)
     }
 
+    /// The origins, in the order in which they were added.
     pub fn into_origins(self) -> Vec<Origin> {
         let Gathering {
             names: _,
@@ -106,11 +109,14 @@ impl Gathering {
         origins
     }
 
+    /// The key of a name in a space. A name that is new gets the next number.
     pub fn key(&mut self, alloc: Global, space: Space, name: &Name) -> Result<Key, NoMemory> {
         let name = self.names.number(alloc, name.as_str())?;
         Ok(Key { space, name })
     }
 
+    /// Adds an origin behind the others: a name, and the judgement of the module that it stands for,
+    /// both numbered from 0.
     pub fn add(
         &mut self,
         alloc: Global,

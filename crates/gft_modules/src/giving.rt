@@ -51,8 +51,8 @@ fn own_names<'a>(alloc: Global, own: &'a Vec<Declared>) -> Result<IndexSet<&'a s
     Ok(names)
 }
 
-/// What an instance keeps of its interface: each definition that it does not replace. Its copies are
-/// its own once they are made, and then it keeps nothing more.
+/// What an instance keeps of its interface: each definition that it does not replace. Its copies
+/// are its own once they are made, and then it keeps nothing more.
 fn keep<'a>(
     alloc: Global,
     import: Import<'a, '_>,

@@ -89,7 +89,8 @@ pub fn body_of(rest: &Rest) -> Option<&Body> {
     }
 }
 
-/// The judgements of a module, the copies of an instance or of a `with` among them once they are made.
+/// The judgements of a module, the copies of an instance or of a `with` among them once they are
+/// made.
 pub fn judgements_of(module: &Module) -> &[Shared<Judgement>] {
     match body_of(&module.rest) {
         None => &[],

@@ -32,8 +32,8 @@ fn is_param(modules: &Vec<Module>, origin: &Origin) -> bool {
     )
 }
 
-/// Where the names of parameter types and constructors stand that are among the origins and that the
-/// restriction lets through.
+/// Where the names of parameter types and constructors stand that are among the origins and that
+/// the restriction lets through.
 fn spots_through(
     alloc: Global,
     import: Import<'_, '_>,
@@ -52,9 +52,9 @@ fn spots_through(
     Ok(spots)
 }
 
-/// Where the names of parameter types and constructors stand that the interface of an instance has, or
-/// that the functor of a `with` has and its restriction lets through: a copied type keeps those of its
-/// names that are not among them, and no name reaches them.
+/// Where the names of parameter types and constructors stand that the interface of an instance has,
+/// or that the functor of a `with` has and its restriction lets through: a copied type keeps those
+/// of its names that are not among them, and no name reaches them.
 pub fn visible_spots(
     alloc: Global,
     import: Import<'_, '_>,
@@ -73,8 +73,8 @@ pub fn visible_spots(
     }
 }
 
-/// Whether a name of the module's judgements is one of a copied parameter type that is not among those
-/// visible.
+/// Whether a name of the module's judgements is one of a copied parameter type that is not among
+/// those visible.
 pub fn is_hidden(module: &Module, declared: &Declared, visible: &IndexSet<Spot>) -> bool {
     if declared.place.file == header_name(&module.header).place.file {
         return false;

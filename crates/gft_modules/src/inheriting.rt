@@ -120,12 +120,12 @@ fn nothing_known(alloc: Global, modules: &Vec<Module>) -> Result<Vec<Vec<Origin>
     Ok(known)
 }
 
-/// What the module of that number has: what it inherits in the order of its header, then what its own
-/// judgements declare in source order, or the first refusal by the rules of its header on kinds,
-/// restrictions and clashes. Needs each instance and each `with` module that it rests on instantiated.
-/// Called for an instance or a `with` module that is not yet, it decides these rules over the header;
-/// called again once it is, it gives the copies too. It goes through all that the module rests on:
-/// where that is known already call `inherit_from`.
+/// What the module of that number has: what it inherits in the order of its header, then what its
+/// own judgements declare in source order, or the first refusal by the rules of its header on
+/// kinds, restrictions and clashes. Needs each instance and each `with` module that it rests on
+/// instantiated. Called for an instance or a `with` module that is not yet, it decides these rules
+/// over the header; called again once it is, it gives the copies too. It goes through all that the
+/// module rests on: where that is known already call `inherit_from`.
 pub fn inherit(alloc: Global, modules: &Vec<Module>, m: u32) -> Result<Vec<Origin>, Stop> {
     let mut known = nothing_known(alloc, modules)?;
     'modules: for number in order_from(alloc, modules, &[m])?.iter() {

@@ -127,8 +127,8 @@ fn first_in_header<'a>(import: Import<'a, '_>, module: &'a Module) -> Option<Fir
     first
 }
 
-/// The functor of a `with` that stands under another header than that of a concrete module, where it
-/// is an incomplete concrete module.
+/// The functor of a `with` that stands under another header than that of a concrete module, where
+/// it is an incomplete concrete module.
 fn first_functor<'a>(
     import: Import<'a, '_>,
     module: &'a Module,
@@ -197,8 +197,8 @@ fn refuse_judgement(alloc: Global, judgement: &Judgement) -> Result<(), Stop> {
     }
 }
 
-/// Refuses the first module of the header, or else the first judgement, of a kind that is not allowed
-/// there.
+/// Refuses the first module of the header, or else the first judgement, of a kind that is not
+/// allowed there.
 pub fn check_kinds<'a, 'n>(
     alloc: Global,
     modules: &'a Vec<Module>,

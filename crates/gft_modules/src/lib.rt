@@ -1,4 +1,5 @@
-//! The order of modules, the rules of their headers, and what each module has by inheritance and by itself.
+//! The order of modules, the rules of their headers, and what each module has by inheritance and by
+//! itself.
 #![tactic(auto)]
 
 mod clashes;

@@ -120,7 +120,8 @@ pub fn order_from(
     Ok(done)
 }
 
-/// The numbers of the modules, those needed first. Needs each module that a header names, and no cycle.
+/// The numbers of the modules, those needed first. Needs each module that a header names, and no
+/// cycle.
 pub fn order(alloc: Global, modules: &Vec<Module>) -> Result<Vec<u32>, NoMemory> {
     let mut roots = Vec::new(alloc);
     let mut number = 0u32;

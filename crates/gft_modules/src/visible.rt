@@ -3,8 +3,8 @@ use crate::headers::judgement_at;
 use gft_core::Place;
 use gft_syntax::{Judgement, Module, Origin, PlacedName};
 
-/// A name of a judgement by its number: of `cat [C]` there are three, at one place, which none of the
-/// names written has.
+/// A name of a judgement by its number: of `cat [C]` there are three, at one place, which none of
+/// the names written has.
 fn name_at(judgement: &Judgement, at: usize) -> Option<&PlacedName> {
     match judgement {
         Judgement::Flag(_, _) => None,

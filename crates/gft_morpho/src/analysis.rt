@@ -4,8 +4,9 @@ use gft_pmcfg::{Concrete, Grammar, Info, Prod};
 use indexmap::IndexMap;
 use std::alloc::Global;
 
-/// What a word can be: a function without arguments, the case of its value among those of its category,
-/// and the string cell of that value, each by number from 0. The order is by function, case and cell.
+/// What a word can be: a function without arguments, the case of its value among those of its
+/// category, and the string cell of that value, each by number from 0. The order is by function,
+/// case and cell.
 #[derive(Clone, Copy, Debug, PartialEq, Eq, PartialOrd, Ord)]
 pub struct Analysis {
     pub fun: u32,
@@ -144,8 +145,8 @@ fn each_once(alloc: Global, list: Vec<Analysis>) -> Result<Vec<Analysis>, NoMemo
     Ok(once)
 }
 
-/// What each word of the text can be in a language: one walk over its productions for all words. A language
-/// out of range has no words.
+/// What each word of the text can be in a language: one walk over its productions for all words. A
+/// language out of range has no words.
 pub fn analyses(
     alloc: Global,
     g: &Grammar,

@@ -6,8 +6,8 @@ use gft_forms::Span;
 use gft_syntax::Predef;
 use std::alloc::Global;
 
-/// A constructor or predefined function that has fewer arguments becomes a function of those that it
-/// lacks, outside of which the others are evaluated.
+/// A constructor or predefined function that has fewer arguments becomes a function of those that
+/// it lacks, outside of which the others are evaluated.
 impl Nodes {
     /// The innermost so many variables, the last one innermost.
     fn variables(&mut self, alloc: Global, count: u32) -> Result<Span, NoMemory> {

@@ -17,9 +17,9 @@ use gft_core::NoMemory;
 use gft_syntax::{Flat, LinTerm};
 use std::alloc::Global;
 
-/// The normal form of judgement j, without opers, lambdas and applications: that of j applied to one
-/// argument for each of its parameters, `Arg(0)` the first. `typed` has what typing gave for j and for
-/// all that j rests on; else there is no outcome.
+/// The normal form of judgement j, without opers, lambdas and applications: that of j applied to
+/// one argument for each of its parameters, `Arg(0)` the first. `typed` has what typing gave for j
+/// and for all that j rests on; else there is no outcome.
 pub fn normal(alloc: Global, flat: &Flat, j: u32) -> Result<LinTerm, NoMemory> {
     let mut roots = Vec::new(alloc);
     roots.push(j)?;
@@ -30,8 +30,9 @@ pub fn normal(alloc: Global, flat: &Flat, j: u32) -> Result<LinTerm, NoMemory> {
     }
 }
 
-/// The normal forms of the typed `lin`, `lindef` and `linref` judgements of concrete c, in the order of
-/// their numbers. Each oper that they rest on is brought to normal form once, and its body is shared.
+/// The normal forms of the typed `lin`, `lindef` and `linref` judgements of concrete c, in the
+/// order of their numbers. Each oper that they rest on is brought to normal form once, and its body
+/// is shared.
 pub fn normal_forms(alloc: Global, flat: &Flat, c: u32) -> Result<Vec<LinTerm>, NoMemory> {
     let roots = numbers::numbers_of(alloc, flat, c)?;
     table::normal_terms(alloc, flat.typed.as_slice(), roots.as_slice())

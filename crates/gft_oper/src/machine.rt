@@ -14,8 +14,8 @@ pub enum Outcome {
     Function(u32),
 }
 
-/// `depth` counts the binders around the place in the normal term; `bound` has the terms that are bound
-/// there and whose `Let` is still to be written, the innermost last.
+/// `depth` counts the binders around the place in the normal term; `bound` has the terms that are
+/// bound there and whose `Let` is still to be written, the innermost last.
 #[derive(Drop)]
 pub struct Machine {
     pub meanings: Vec<Meaning>,
@@ -37,7 +37,8 @@ pub fn count_of<T>(terms: &[T]) -> u32 {
     u32::try_from(terms.len()).unwrap_or(u32::MAX)
 }
 
-/// Whether the terms are the innermost variables in their order, so that binding them changes nothing.
+/// Whether the terms are the innermost variables in their order, so that binding them changes
+/// nothing.
 fn are_innermost(terms: &[LinTerm]) -> bool {
     let mut back = count_of(terms);
     for term in terms {
@@ -211,8 +212,8 @@ impl Machine {
         }
     }
 
-    /// Binds one term, and says what a variable for it stands for. A variable is its one value, so it is
-    /// not bound again.
+    /// Binds one term, and says what a variable for it stands for. A variable is its one value, so
+    /// it is not bound again.
     fn bind(&mut self, alloc: Global, number: u32) -> Result<Entry, NoMemory> {
         if let Some(entry) = self.entry_at(number) {
             return Ok(entry);
@@ -259,7 +260,8 @@ impl Machine {
         }
     }
 
-    /// Writes each `Let` but the first so many round the term, and goes back to the depth before them.
+    /// Writes each `Let` but the first so many round the term, and goes back to the depth before
+    /// them.
     fn wrapped(
         &mut self,
         alloc: Global,

@@ -9,7 +9,8 @@ pub enum Meaning {
     Nothing,
     /// Data: a normal term.
     Data(Shared<LinTerm>),
-    /// A function of so many arguments that are data: its body, which is normal and closed but for them.
+    /// A function of so many arguments that are data: its body, which is normal and closed but for
+    /// them.
     Function(u32, Shared<LinTerm>),
     /// Any other function: the term as typed.
     Template(Shared<LinTerm>),

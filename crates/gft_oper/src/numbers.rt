@@ -48,7 +48,8 @@ fn is_typed(flat: &Flat, number: usize) -> bool {
     }
 }
 
-/// Adds the numbers of the typed linearizations among the judgements, of which the first has this one.
+/// Adds the numbers of the typed linearizations among the judgements, of which the first has this
+/// one.
 fn add(
     flat: &Flat,
     judgements: &[FlatJudgement],

@@ -89,8 +89,8 @@ impl Ordering {
     }
 }
 
-/// All that the roots rest on, each once, each after what it names. It walks with a list of what is begun,
-/// so that no chain of opers takes stack.
+/// All that the roots rest on, each once, each after what it names. It walks with a list of what is
+/// begun, so that no chain of opers takes stack.
 pub fn order(alloc: Global, typed: &[Option<Typed>], roots: &[u32]) -> Result<Vec<u32>, NoMemory> {
     let mut ordering = Ordering::new(alloc, typed.len())?;
     for root in roots {

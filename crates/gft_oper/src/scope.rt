@@ -7,8 +7,8 @@ use std::alloc::Global;
 /// The empty scope.
 pub const EMPTY: u32 = u32::MAX;
 
-/// What a variable stands for: what is bound by the normal term at that many binders from the outside, an
-/// argument of the whole judgement, or the function of that number.
+/// What a variable stands for: what is bound by the normal term at that many binders from the
+/// outside, an argument of the whole judgement, or the function of that number.
 #[derive(Clone, Copy)]
 pub enum Entry {
     Level(u32),
@@ -23,8 +23,8 @@ struct Link {
     outer: u32,
 }
 
-/// A function as a value. `given` counts the arguments that it has so far, fewer than `params`; they are
-/// the innermost variables of `scope`. Bodies and cuts are named by their numbers.
+/// A function as a value. `given` counts the arguments that it has so far, fewer than `params`;
+/// they are the innermost variables of `scope`. Bodies and cuts are named by their numbers.
 #[derive(Clone, Copy)]
 pub enum Function {
     /// A lambda, of which so many parameters are left, with the scope of its body.
@@ -54,8 +54,8 @@ pub enum Function {
     },
 }
 
-/// The types at which a function is seen at another type: its argument is cut from `given` to `takes`
-/// before it is taken, and its result is cut from `gives` to `wanted`.
+/// The types at which a function is seen at another type: its argument is cut from `given` to
+/// `takes` before it is taken, and its result is cut from `gives` to `wanted`.
 #[derive(Drop)]
 pub struct Cut {
     pub given: Shared<CType>,
@@ -169,8 +169,8 @@ impl Scopes {
         }
     }
 
-    /// How many parameters the function has and its body, where it is an oper in normal form without
-    /// arguments so far, and no more parameters than there are arguments.
+    /// How many parameters the function has and its body, where it is an oper in normal form
+    /// without arguments so far, and no more parameters than there are arguments.
     pub fn whole(&self, number: u32, args: usize) -> Option<(u32, u32)> {
         match self.function(number) {
             Some(

@@ -125,8 +125,8 @@ fn fill(
     Ok(())
 }
 
-/// Lets go of the meanings, those first that others do not rest on: so no chain of opers is let go of at
-/// once.
+/// Lets go of the meanings, those first that others do not rest on: so no chain of opers is let go
+/// of at once.
 fn release(machine: &mut Machine, order: &[u32]) {
     for back in 0..order.len() {
         match order.get(order.len() - 1 - back) {

@@ -238,7 +238,8 @@ impl Terms {
         self.add(alloc, LinTerm::Let(terms, body))
     }
 
-    /// The term of that number, of the first type, cut to the second; itself where it stays as it is.
+    /// The term of that number, of the first type, cut to the second; itself where it stays as it
+    /// is.
     pub fn cut(
         &mut self,
         alloc: Global,

@@ -1,5 +1,5 @@
-//! The walk over a typed term. Each call lowers `fuel`, the bound on how deep calls nest; well-typed terms
-//! end long before it.
+//! The walk over a typed term. Each call lowers `fuel`, the bound on how deep calls nest;
+//! well-typed terms end long before it.
 use crate::binders::binders;
 use crate::machine::{Machine, Named, Outcome};
 use crate::scope::{EMPTY, Entry, Function};
@@ -93,8 +93,8 @@ impl Machine {
         Ok(inner)
     }
 
-    /// What came of a head, applied to the arguments from this place on. An oper in normal form is called
-    /// with all its arguments at once, any other function with one after the other.
+    /// What came of a head, applied to the arguments from this place on. An oper in normal form is
+    /// called with all its arguments at once, any other function with one after the other.
     #[cycle(walk)]
     fn applied(
         &mut self,

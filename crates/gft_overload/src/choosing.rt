@@ -38,8 +38,8 @@ fn also(choice: Choice, number: u32) -> Choice {
     }
 }
 
-/// The alternative with as many parameters as there are arguments, each argument's type a subtype of the
-/// parameter's. NoMemory where the alternatives cannot be numbered.
+/// The alternative with as many parameters as there are arguments, each argument's type a subtype
+/// of the parameter's. NoMemory where the alternatives cannot be numbered.
 pub fn choose(
     _alloc: Global,
     alternatives: &Vec<CType>,

@@ -72,7 +72,8 @@ fn unclosed(
     }
 }
 
-/// The judgements of the slices of a body, whose tokens begin at `from`, or the refusal of the first faulty slice.
+/// The judgements of the slices of a body, whose tokens begin at `from`, or the refusal of the
+/// first faulty slice.
 pub(crate) fn judgements(
     alloc: Global,
     tokens: &Vec<SourceToken>,

@@ -152,7 +152,8 @@ fn rest(alloc: Global, cursor: &mut Cursor<'_>, has_body: bool) -> Result<Rest, 
     behind_inherited(alloc, cursor, has_body, inherits)
 }
 
-/// The module that all tokens of the slice begin, with no judgements yet. A file without a body may end with `;`.
+/// The module that all tokens of the slice begin, with no judgements yet. A file without a body may
+/// end with `;`.
 pub(crate) fn begun_module(
     alloc: Global,
     cursor: &mut Cursor<'_>,

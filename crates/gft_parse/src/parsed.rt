@@ -88,8 +88,9 @@ fn with_body(
     Ok(filled(module, judgements))
 }
 
-/// The module that the tokens of a file spell, or the refusal of the first faulty slice. The file is the number that places have.
-/// Each token is read once or twice; the stack that reading takes does not grow with them.
+/// The module that the tokens of a file spell, or the refusal of the first faulty slice. The file
+/// is the number that places have. Each token is read once or twice; the stack that reading takes
+/// does not grow with them.
 pub fn parse_module(alloc: Global, file: u32, tokens: &Vec<SourceToken>) -> Result<Module, Stop> {
     let Some(first) = tokens.as_slice().first() else {
         let place = Place {

@@ -1,4 +1,5 @@
-//! The judgement of a slice out of the steps of its plan: each step takes the parts built last and puts the form on top.
+//! The judgement of a slice out of the steps of its plan: each step takes the parts built last and
+//! puts the form on top.
 mod judgements;
 mod lists;
 mod patterns;

@@ -1,4 +1,5 @@
-//! The steps by which the forms of a slice are built, each after the steps of its parts. Tokens are named by number.
+//! The steps by which the forms of a slice are built, each after the steps of its parts. Tokens are
+//! named by number.
 
 /// The tokens from one up to another.
 #[derive(Clone, Copy)]

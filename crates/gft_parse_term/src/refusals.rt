@@ -30,7 +30,8 @@ fn outside(alloc: Global, word: &str, place: Place) -> Result<Refusal, NoMemory>
     named(alloc, Rule::OutOfProfile, place, word)
 }
 
-/// A `-` where a pattern may stand. No word that is out of the profile comes before it, since none goes on with a form.
+/// A `-` where a pattern may stand. No word that is out of the profile comes before it, since none
+/// goes on with a form.
 pub(crate) fn negated_pattern(alloc: Global, place: Place) -> Result<Refusal, NoMemory> {
     outside(alloc, "negated pattern", place)
 }
@@ -76,9 +77,10 @@ fn stop_of(refusal: Result<Refusal, NoMemory>) -> Stop {
     }
 }
 
-/// The refusal of the slice from one token up to another, which is not in the grammar: its first word that is out of the
-/// profile, else the first bracket too many that is open at once, else its syntax at its first token, where an empty slice has
-/// the token after it. One walk over the slice, or two.
+/// The refusal of the slice from one token up to another, which is not in the grammar: its first
+/// word that is out of the profile, else the first bracket too many that is open at once, else its
+/// syntax at its first token, where an empty slice has the token after it. One walk over the slice,
+/// or two.
 pub fn underivable(
     alloc: Global,
     tokens: &Vec<SourceToken>,

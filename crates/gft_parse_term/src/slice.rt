@@ -60,8 +60,8 @@ fn read(reader: &mut Reader<'_>, before: Option<Keyword>) -> Result<Slice, NoMem
     }
 }
 
-/// The refusal of a slice that is a judgement or may be the beginning of one, if it has one: a `-` in a pattern, a word out of
-/// the profile, brackets that are too deep, or a term that is too high.
+/// The refusal of a slice that is a judgement or may be the beginning of one, if it has one: a `-`
+/// in a pattern, a word out of the profile, brackets that are too deep, or a term that is too high.
 fn refused(
     alloc: Global,
     tokens: &[SourceToken],
@@ -92,10 +92,11 @@ fn planned(
     Ok((slice, reader.into_plan()))
 }
 
-/// The judgement that the tokens from one up to another are, which may go on with the keyword before, or the first rule that
-/// they break: a word out of the profile or a `-` in a pattern, by place; else the first bracket that is open at once with 200
-/// others; else the first term that is higher than 1,000; else their syntax. Each token is read once; the stack that reading
-/// takes does not grow with them.
+/// The judgement that the tokens from one up to another are, which may go on with the keyword
+/// before, or the first rule that they break: a word out of the profile or a `-` in a pattern, by
+/// place; else the first bracket that is open at once with 200 others; else the first term that is
+/// higher than 1,000; else their syntax. Each token is read once; the stack that reading takes does
+/// not grow with them.
 pub fn parse_judgement(
     alloc: Global,
     tokens: &Vec<SourceToken>,
@@ -116,8 +117,8 @@ pub fn parse_judgement(
     }
 }
 
-/// The rule that the tokens break as the last slice of a body that the file does not close, if it is another one than that the
-/// file ends there.
+/// The rule that the tokens break as the last slice of a body that the file does not close, if it
+/// is another one than that the file ends there.
 pub fn unfinished(
     alloc: Global,
     tokens: &Vec<SourceToken>,

@@ -3,8 +3,8 @@ use crate::concrete::{Def, Info, Ref};
 use gft_core::{Name, Shared, Sym};
 use sqlite_items::Items;
 
-/// An argument of a shared production: one nonterminal, or the group of that number, from 0, any member of
-/// which may stand there.
+/// An argument of a shared production: one nonterminal, or the group of that number, from 0, any
+/// member of which may stand there.
 #[derive(Clone, Copy, Debug, PartialEq, Eq)]
 pub enum CArg {
     One(u32),
@@ -20,8 +20,8 @@ pub struct CProd {
     pub seqs: Items<Shared<Items<Sym>>>,
 }
 
-/// A concrete syntax whose productions are shared. A group is a list of two or more nonterminals of one
-/// category, the least first.
+/// A concrete syntax whose productions are shared. A group is a list of two or more nonterminals of
+/// one category, the least first.
 #[derive(Drop)]
 pub struct Coerced {
     pub name: Name,

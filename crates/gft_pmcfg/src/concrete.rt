@@ -4,8 +4,8 @@ use gft_core::{Name, NoMemory, Shared, Sym};
 use sqlite_items::Items;
 use std::alloc::Global;
 
-/// What a concrete syntax makes of a category: its first nonterminal, the number of its cases, each of
-/// which is a nonterminal, and the number of string cells of each.
+/// What a concrete syntax makes of a category: its first nonterminal, the number of its cases, each
+/// of which is a nonterminal, and the number of string cells of each.
 #[derive(Clone, Copy, Debug, PartialEq, Eq)]
 pub struct Info {
     pub first: u32,
@@ -13,8 +13,8 @@ pub struct Info {
     pub dim: u32,
 }
 
-/// A production: a function, the nonterminal of each argument, the nonterminal of the result, and for
-/// each component of the result its sequence.
+/// A production: a function, the nonterminal of each argument, the nonterminal of the result, and
+/// for each component of the result its sequence.
 #[derive(Drop)]
 pub struct Prod {
     pub fun: u32,
@@ -37,8 +37,8 @@ pub struct Ref {
     pub seq: Shared<Items<Sym>>,
 }
 
-/// A concrete syntax. `infos` has an entry for each category by its number. Nonterminal 0 is that of
-/// `Int` and 1 that of `String`; neither has a def or a ref of its own here.
+/// A concrete syntax. `infos` has an entry for each category by its number. Nonterminal 0 is that
+/// of `Int` and 1 that of `String`; neither has a def or a ref of its own here.
 #[derive(Drop)]
 pub struct Concrete {
     pub name: Name,

@@ -20,7 +20,8 @@ pub struct Grammar {
 }
 
 impl Grammar {
-    /// The grammar of these parts. None where a number is out of range or a dimension does not agree.
+    /// The grammar of these parts. None where a number is out of range or a dimension does not
+    /// agree.
     pub fn checked(
         alloc: Global,
         abs: Abstract,
@@ -34,7 +35,8 @@ impl Grammar {
 
     ghost use Rattle.gft_pmcfg.specs.Nonterminals.{infos_at, nonterminals_of, dimension_of};
 
-    /// The number of string cells of a nonterminal, by halving the list of categories. It takes no memory.
+    /// The number of string cells of a nonterminal, by halving the list of categories. It takes no
+    /// memory.
     pub fn dimension(&self, lang: u32, nonterminal: u32) -> u32
         requires language { lang < length self.now.concretes }
         requires nonterminal { nonterminal < nonterminals_of (infos_at self.now.concretes lang) }

@@ -313,8 +313,8 @@ fn productions_fit(
     Ok(true)
 }
 
-/// The number of string cells of a nonterminal, by halving the list of categories; None where it is not one of a listed
-/// category.
+/// The number of string cells of a nonterminal, by halving the list of categories; None where it is
+/// not one of a listed category.
 fn listed_dimension(infos: &[Info], n: u32) -> Option<u32>
     requires { are_infos 0 infos.now ≡ true }
     ensures { IfSome result (λ dim. (is_listed infos.now n ≡ true) × (dim ≡ dimension_of infos.now n)) }
@@ -406,7 +406,8 @@ fn is_concrete(alloc: Global, a: &Abstract, c: &Concrete) -> Result<bool, NoMemo
     Ok(refs_fit(infos, c.refs.as_slice()))
 }
 
-/// Whether all numbers are in range and the dimensions agree. One walk; only the names in types are looked for one by one.
+/// Whether all numbers are in range and the dimensions agree. One walk; only the names in types are
+/// looked for one by one.
 pub fn is_in_range(alloc: Global, a: &Abstract, concretes: &[Concrete]) -> Result<bool, NoMemory>
     ensures { IfOk result (λ yes. yes ≡ true → is_in_range a.now concretes.now ≡ true) }
 {

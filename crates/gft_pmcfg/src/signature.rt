@@ -28,8 +28,8 @@ pub struct Fun {
     pub result: AType,
 }
 
-/// An abstract syntax. Category 0 is `Int` and category 1 is `String`; the others follow by name, and so
-/// do the functions from 0. `start` is the start category.
+/// An abstract syntax. Category 0 is `Int` and category 1 is `String`; the others follow by name,
+/// and so do the functions from 0. `start` is the start category.
 #[derive(Drop)]
 pub struct Abstract {
     pub name: Name,

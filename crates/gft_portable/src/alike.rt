@@ -4,8 +4,8 @@ use crate::rows::of_function;
 use gft_core::NoMemory;
 use std::alloc::Global;
 
-/// What a production has besides its arguments, and its place. Only productions that are alike in their
-/// function, result and sequences can become one.
+/// What a production has besides its arguments, and its place. Only productions that are alike in
+/// their function, result and sequences can become one.
 #[derive(PartialEq, Eq, PartialOrd, Ord, Drop)]
 struct Kind {
     result: u32,
@@ -47,8 +47,8 @@ fn is_alike(one: Option<&Kind>, other: &Kind) -> bool {
     }
 }
 
-/// Adds the places of the productions of one function that are alike, the first production of the function
-/// standing at a place.
+/// Adds the places of the productions of one function that are alike, the first production of the
+/// function standing at a place.
 fn add_alike(
     alloc: Global,
     language: &Language,

@@ -18,8 +18,8 @@ pub enum Flaw {
     Unshared,
 }
 
-/// Why a file is not read: the rule that its first fault breaks, or the flaw of the grammar, each with the
-/// place in bytes from 0.
+/// Why a file is not read: the rule that its first fault breaks, or the flaw of the grammar, each
+/// with the place in bytes from 0.
 #[derive(Clone, Copy, Debug, PartialEq, Eq)]
 pub enum ReadErr {
     Bad(Rule, u32),

@@ -8,7 +8,8 @@ use std::alloc::Global;
 use std::cmp::Ordering;
 use std::str;
 
-/// A part of the file: its first byte, and the byte after its last. A file has fewer than 2^32 bytes.
+/// A part of the file: its first byte, and the byte after its last. A file has fewer than 2^32
+/// bytes.
 #[derive(Clone, Copy)]
 pub struct Span {
     pub from: u32,

@@ -96,8 +96,8 @@ fn is_productive(language: &Language, reached: &[bool], whole: &[bool], one: Pro
     true
 }
 
-/// Where the first production stands that some choice of members leaves without a run. Most files have
-/// none, which is seen without a copy of the productions.
+/// Where the first production stands that some choice of members leaves without a run. Most files
+/// have none, which is seen without a copy of the productions.
 fn unproductive(
     alloc: Global,
     abs: &Abstract,

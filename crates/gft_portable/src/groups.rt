@@ -8,8 +8,8 @@ use crate::terms::push;
 use gft_rules::Rule;
 use std::alloc::Global;
 
-/// A group: where it begins in the file, its category, where its members stand among those of all groups,
-/// and whether something names it.
+/// A group: where it begins in the file, its category, where its members stand among those of all
+/// groups, and whether something names it.
 #[derive(Clone, Copy)]
 struct Group {
     at: u32,

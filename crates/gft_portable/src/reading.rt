@@ -64,8 +64,8 @@ fn concretes_of(
     Ok(all)
 }
 
-/// The grammar whose file, of version 1 or 2, these bytes are; else the first fault in the order of the
-/// file, or where all fields are good the first flaw. The time is that of writing the grammar.
+/// The grammar whose file, of version 1 or 2, these bytes are; else the first fault in the order of
+/// the file, or where all fields are good the first flaw. The time is that of writing the grammar.
 pub fn read(alloc: Global, bytes: &Vec<u8>) -> Result<Grammar, ReadErr> {
     let mut reader = Reader::new(bytes.as_slice());
     let version = read_version(&mut reader)?;

@@ -3,8 +3,8 @@ use crate::productions::{Language, Production};
 use gft_core::NoMemory;
 use std::alloc::Global;
 
-/// A production of one function, groups written out: its arguments, its result, and the numbers of its
-/// sequences. The order of rows is that of productions.
+/// A production of one function, groups written out: its arguments, its result, and the numbers of
+/// its sequences. The order of rows is that of productions.
 #[derive(PartialEq, Eq, PartialOrd, Ord, Drop)]
 pub struct Row {
     pub args: Vec<u32>,

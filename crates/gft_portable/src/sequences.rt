@@ -16,8 +16,8 @@ enum Symbol {
     Arg(u32, u32),
 }
 
-/// A sequence: where it begins in the file, where its symbols and what it asks for stand among those of
-/// all, and whether something names it.
+/// A sequence: where it begins in the file, where its symbols and what it asks for stand among
+/// those of all, and whether something names it.
 #[derive(Clone, Copy)]
 struct Sequence {
     at: u32,
@@ -28,7 +28,8 @@ struct Sequence {
     is_used: bool,
 }
 
-/// An argument, and the greatest component of it that a sequence has. The order is that of arguments.
+/// An argument, and the greatest component of it that a sequence has. The order is that of
+/// arguments.
 #[derive(Clone, Copy, PartialEq, Eq, PartialOrd, Ord)]
 struct Need {
     argument: u32,
@@ -58,8 +59,8 @@ impl Sequences {
         count(self.all.len())
     }
 
-    /// One more symbol; true where it is a component. Where dimensions of arguments are given it is one of
-    /// those.
+    /// One more symbol; true where it is a component. Where dimensions of arguments are given it is
+    /// one of those.
     fn read_symbol(&mut self, reader: &mut Reader, dims: Option<&[u32]>) -> Result<bool, ReadErr> {
         let at = reader.at();
         let tag = reader.tag()?;

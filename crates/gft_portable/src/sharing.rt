@@ -103,8 +103,8 @@ fn groups(
     Ok(groups)
 }
 
-/// The file's number for an argument, where the nonterminals are so many. None where the file has no such
-/// group.
+/// The file's number for an argument, where the nonterminals are so many. None where the file has
+/// no such group.
 fn argument(groups: &[Option<u32>], total: u32, arg: CArg) -> Option<u32> {
     match arg {
         CArg::One(nonterminal) => Some(nonterminal),
@@ -144,8 +144,8 @@ fn add_numbers(key: &mut Vec<u32>, seqs: &[Shared<Items<Sym>>]) -> Result<(), No
     Ok(())
 }
 
-/// A shared production as the file would have it: its function, arguments, result and sequences. None where
-/// it has a group that the file lacks.
+/// A shared production as the file would have it: its function, arguments, result and sequences.
+/// None where it has a group that the file lacks.
 fn shared_key(
     alloc: Global,
     groups: &[Option<u32>],
@@ -191,8 +191,8 @@ fn keys(
     Ok(keys)
 }
 
-/// Where the first production stands that is not one of the shared ones of the concrete syntax. Only those
-/// that are like another one are looked at: any other is what it becomes.
+/// Where the first production stands that is not one of the shared ones of the concrete syntax.
+/// Only those that are like another one are looked at: any other is what it becomes.
 pub fn unshared(alloc: Global, language: &Language, c: &Concrete) -> Result<Option<u32>, NoMemory> {
     let alike = alike(alloc, language)?;
     if alike.is_empty() {

@@ -4,8 +4,8 @@ use gft_abs::function_named;
 use gft_core::{NoMemory, Tree};
 use gft_pmcfg::{AType, Abstract, Cat, Fun};
 
-/// A term of a type: an application, a variable by the number of its argument from 0, an integer, or a
-/// text.
+/// A term of a type: an application, a variable by the number of its argument from 0, an integer,
+/// or a text.
 #[cycle(term)]
 fn put_term(out: &mut Output, funs: &[Fun], term: &Tree) -> Result<(), NoMemory> {
     match term {

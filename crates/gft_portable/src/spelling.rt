@@ -3,7 +3,8 @@ use crate::reserved::is_reserved;
 use gft_core::{is_continue, is_start};
 use std::str;
 
-/// Whether the characters after the first one of an identifier are these: a lone underscore is none.
+/// Whether the characters after the first one of an identifier are these: a lone underscore is
+/// none.
 fn goes_on(first: char, rest: &str) -> bool {
     (first != '_' || rest.len() > 0) && rest.chars().all(|c| is_continue(c))
 }

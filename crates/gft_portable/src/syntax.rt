@@ -18,8 +18,8 @@ pub struct Type {
     pub to: u32,
 }
 
-/// A category or a function: where it begins in the file, its name, and where its types stand among all of
-/// them. The last type of a function is that of its result.
+/// A category or a function: where it begins in the file, its name, and where its types stand among
+/// all of them. The last type of a function is that of its result.
 #[derive(Clone, Copy)]
 pub struct Entry {
     pub at: u32,

@@ -13,15 +13,16 @@ struct Ranked {
     number: u32,
 }
 
-/// The bytes of the sequences that were met, each once, and for each occurrence, in the order of the file,
-/// which of them it is.
+/// The bytes of the sequences that were met, each once, and for each occurrence, in the order of
+/// the file, which of them it is.
 #[derive(Drop)]
 struct Met {
     seqs: IndexSet<Vec<u8>>,
     numbers: Vec<u32>,
 }
 
-/// The sequences in order, and for each occurrence, in the order of the file, the place of its sequence.
+/// The sequences in order, and for each occurrence, in the order of the file, the place of its
+/// sequence.
 #[derive(Drop)]
 pub struct Table {
     ordered: Vec<Ranked>,

@@ -7,8 +7,8 @@ use std::alloc::Global;
 /// The most levels of a term.
 const HIGHEST: usize = 201;
 
-/// A term, its parts right after it: the number of a function with that of its parts, a variable by the
-/// number of its argument from 1, an integer by where its bytes stand, or a text.
+/// A term, its parts right after it: the number of a function with that of its parts, a variable by
+/// the number of its argument from 1, an integer by where its bytes stand, or a text.
 #[derive(Clone, Copy)]
 pub enum Node {
     App(u32, u32),
@@ -55,8 +55,8 @@ fn read_node(reader: &mut Reader, bounds: Bounds, level: usize) -> Result<Node, 
     }
 }
 
-/// Reads so many terms after those that were read. `open` has for each level the number of terms that are
-/// still to come there.
+/// Reads so many terms after those that were read. `open` has for each level the number of terms
+/// that are still to come there.
 pub fn read_terms(
     alloc: Global,
     reader: &mut Reader,

@@ -120,8 +120,8 @@ fn is_too_large(concretes: &[Concrete]) -> bool {
     concretes.iter().any(|c| c.prods.len() > MOST_PRODUCTIONS)
 }
 
-/// The file of a grammar, version 2. None exactly where it has over 67,108,864 bytes, or a language has over
-/// 8,388,608 productions. The time is that of sorting its productions and sequences.
+/// The file of a grammar, version 2. None exactly where it has over 67,108,864 bytes, or a language
+/// has over 8,388,608 productions. The time is that of sorting its productions and sequences.
 pub fn write(alloc: Global, g: &Grammar) -> Result<Option<Vec<u8>>, NoMemory> {
     let concretes = g.concretes.as_slice();
     if is_too_large(concretes) {

@@ -1,4 +1,5 @@
-//! Which nonterminals have a run: for each production the arguments that still lack one are counted.
+//! Which nonterminals have a run: for each production the arguments that still lack one are
+//! counted.
 use gft_core::NoMemory;
 use gft_pmcfg::{Concrete, Info, Prod};
 use std::alloc::Global;
@@ -13,9 +14,9 @@ struct Slot {
     next: u32,
 }
 
-/// What is known so far. `missing` has for each production how many of its arguments have no run yet;
-/// `waiting` has for each nonterminal the first slot of its chain; `reached` lists the nonterminals
-/// that have a run, in the order in which that was found.
+/// What is known so far. `missing` has for each production how many of its arguments have no run
+/// yet; `waiting` has for each nonterminal the first slot of its chain; `reached` lists the
+/// nonterminals that have a run, in the order in which that was found.
 #[derive(Drop)]
 struct Counting {
     missing: Vec<u32>,

@@ -9,9 +9,10 @@ use gft_core::NoMemory;
 use gft_pmcfg::{Abstract, Concrete};
 use std::alloc::Global;
 
-/// The same concrete syntax with exactly the productions at the root of a run of some tree: those each of
-/// whose arguments has a run. A hole counts at each nonterminal that a def has, and literals always
-/// count. The time is linear in the arguments of the productions. Sequences are shared.
+/// The same concrete syntax with exactly the productions at the root of a run of some tree: those
+/// each of whose arguments has a run. A hole counts at each nonterminal that a def has, and
+/// literals always count. The time is linear in the arguments of the productions. Sequences are
+/// shared.
 pub fn reduce(alloc: Global, c: &Concrete, _abs: &Abstract) -> Result<Concrete, NoMemory> {
     let missing = counted(alloc, c)?;
     kept::kept(alloc, c, missing.as_slice())
@@ -30,8 +31,8 @@ pub fn unproductive(alloc: Global, c: &Concrete, _abs: &Abstract) -> Result<Opti
     Ok(None)
 }
 
-/// For each production whether some tree without holes has it at the root of a run. The time is that of
-/// `reduce`.
+/// For each production whether some tree without holes has it at the root of a run. The time is
+/// that of `reduce`.
 pub fn closed(alloc: Global, c: &Concrete) -> Result<Vec<bool>, NoMemory> {
     let missing = counted_closed(alloc, c)?;
     let mut closed = Vec::new(alloc);

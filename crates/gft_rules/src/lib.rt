@@ -1,4 +1,5 @@
-//! The rules that a refusal names, the line that a refusal is written as, and tables of numbered texts.
+//! The rules that a refusal names, the line that a refusal is written as, and tables of numbered
+//! texts.
 #![tactic(auto)]
 
 mod refusal;

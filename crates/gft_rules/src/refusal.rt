@@ -8,8 +8,8 @@ use gft_core::{NoMemory, Place, Text};
 use sqlite_items::Items;
 use std::alloc::{AllocError, Global};
 
-/// A rule that is broken: where, if it has a place, and the names that it carries, in the order in which
-/// they are written.
+/// A rule that is broken: where, if it has a place, and the names that it carries, in the order in
+/// which they are written.
 #[derive(Debug, Drop)]
 pub struct Refusal {
     pub rule: Rule,
@@ -78,8 +78,8 @@ fn push_names(line: &mut String, names: &[Text]) -> Result<(), NoMemory>
 }
 
 impl Refusal {
-    /// The line that is written, without a newline; `files` has the names of the loaded files in the
-    /// order of their numbers.
+    /// The line that is written, without a newline; `files` has the names of the loaded files in
+    /// the order of their numbers.
     pub fn show(&self, alloc: Global, files: &Vec<Text>) -> Result<Text, NoMemory>
         requires { ForSome self.now.place (λ place. place.file < vec_len files.now) }
         ensures { IfOk result (λ line. line ≡ line_of self.now files.now.items) }

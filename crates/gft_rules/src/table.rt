@@ -5,8 +5,8 @@ ghost use Rattle.gft_rules.specs.Tables.{is_table, rows_of};
 
 use std::marker::Model;
 
-/// A table of N rows, each a code and a text. No code and no text stands twice. Contracts see the list
-/// of the rows, the texts as their bytes.
+/// A table of N rows, each a code and a text. No code and no text stands twice. Contracts see the
+/// list of the rows, the texts as their bytes.
 #[derive(Drop)]
 pub struct Table<const N: usize> {
     rows: &'static [(u32, &'static str)],
@@ -43,8 +43,8 @@ impl<const N: usize> Table<N> {
         rows[i]
     }
 
-    /// The place of the row with this text, from 0; None where no row has it. It looks at each row in
-    /// turn and takes no memory.
+    /// The place of the row with this text, from 0; None where no row has it. It looks at each row
+    /// in turn and takes no memory.
     pub fn find(&self, text: &str) -> Option<usize>
         ensures { result ≡ position (λ r. bytes_eq r.1 text.now) self.now }
     {

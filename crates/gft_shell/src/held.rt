@@ -6,8 +6,8 @@ use gft_lister::Tables;
 use gft_pmcfg::{Cat, Coerced, Grammar};
 use std::alloc::Global;
 
-/// What the commands of a language work over, made once: its shared productions with their index, and
-/// the tables of parsing.
+/// What the commands of a language work over, made once: its shared productions with their index,
+/// and the tables of parsing.
 #[derive(Drop)]
 pub struct Language {
     pub coerced: Coerced,

@@ -12,9 +12,10 @@ pub struct Span {
     pub to: usize,
 }
 
-/// What the variables of the pattern have, in the order in which they first stand in it, where it matches
-/// the whole text, each left part as short as it can be. None where it does not match. Where at most one
-/// side of each sequence has texts of different lengths, the time is that of one walk over both.
+/// What the variables of the pattern have, in the order in which they first stand in it, where it
+/// matches the whole text, each left part as short as it can be. None where it does not match.
+/// Where at most one side of each sequence has texts of different lengths, the time is that of one
+/// walk over both.
 pub fn match_spans(
     alloc: Global,
     pattern: &Pattern,
@@ -62,8 +63,8 @@ fn named(
     Ok(all)
 }
 
-/// The variables of a string pattern with what they have where it matches the whole text, each left part
-/// as short as it can be. None where it does not match.
+/// The variables of a string pattern with what they have where it matches the whole text, each left
+/// part as short as it can be. None where it does not match.
 pub fn match_str(
     alloc: Global,
     p: &Pattern,

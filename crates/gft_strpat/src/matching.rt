@@ -127,8 +127,9 @@ impl<'a> Matcher<'a> {
         Ok(true)
     }
 
-    /// Whether the pattern matches the text from one place to another. What its variables have is added to
-    /// what was found; where it does not match, that is open. A recursion as deep as the pattern.
+    /// Whether the pattern matches the text from one place to another. What its variables have is
+    /// added to what was found; where it does not match, that is open. A recursion as deep as the
+    /// pattern.
     pub fn matches(&mut self, pattern: &Pattern, from: usize, to: usize) -> Result<bool, NoMemory> {
         match pattern {
             Pattern::Any(_) => Ok(true),
@@ -183,8 +184,8 @@ impl<'a> Matcher<'a> {
         self.related(pattern, &relation, (from, width), 0, text.len())
     }
 
-    /// Adds what the variables have where the pattern matches the text from one place to another. The
-    /// places of the relations begin at `base.0`, and their rows have `base.1` words.
+    /// Adds what the variables have where the pattern matches the text from one place to another.
+    /// The places of the relations begin at `base.0`, and their rows have `base.1` words.
     fn related(
         &mut self,
         pattern: &Pattern,

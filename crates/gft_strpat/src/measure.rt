@@ -2,8 +2,8 @@
 use gft_core::{Name, NoMemory};
 use gft_syntax::{Pattern, PatternField, Reference};
 
-/// Adds the variables of a pattern in the order in which they first stand in it, an `Or` those of its left
-/// side. A recursion as deep as the pattern.
+/// Adds the variables of a pattern in the order in which they first stand in it, an `Or` those of
+/// its left side. A recursion as deep as the pattern.
 #[cycle(variables)]
 pub fn variables<'a>(pattern: &'a Pattern, found: &mut Vec<&'a Name>) -> Result<(), NoMemory> {
     match pattern {

@@ -5,8 +5,8 @@ use gft_core::NoMemory;
 use gft_syntax::{Pattern, Reference};
 use std::alloc::Global;
 
-/// Pairs of places: row i has a bit for each j where the text from i to j matches. `parts` are those of
-/// the pattern's parts.
+/// Pairs of places: row i has a bit for each j where the text from i to j matches. `parts` are
+/// those of the pattern's parts.
 #[derive(Drop)]
 pub struct Relation {
     rows: Vec<u64>,
@@ -127,8 +127,8 @@ fn sequence(alloc: Global, length: usize, a: Relation, b: Relation) -> Result<Re
     Ok(all)
 }
 
-/// Any number of matches, one after the other. The last places come first, so each row is whole where an
-/// earlier one takes it.
+/// Any number of matches, one after the other. The last places come first, so each row is whole
+/// where an earlier one takes it.
 fn repeated(alloc: Global, length: usize, a: Relation) -> Result<Relation, NoMemory> {
     let mut all = Relation::empty(alloc, length)?;
     for from in (0..length.saturating_add(1)).rev() {
@@ -142,8 +142,8 @@ fn repeated(alloc: Global, length: usize, a: Relation) -> Result<Relation, NoMem
     Ok(all)
 }
 
-/// The relation of the pattern. A recursion as deep as the pattern; its time is cubic in the length of the
-/// text for each part of the pattern.
+/// The relation of the pattern. A recursion as deep as the pattern; its time is cubic in the length
+/// of the text for each part of the pattern.
 pub fn relate(alloc: Global, pattern: &Pattern, text: &[char]) -> Result<Relation, NoMemory> {
     match pattern {
         Pattern::Any(_) => any(alloc, text.len()),

@@ -1,4 +1,5 @@
-//! A grammar after names are resolved: all judgements that count, under their whole names. In the form of which the definitions speak until they follow `resolved`.
+//! A grammar after names are resolved: all judgements that count, under their whole names. In the
+//! form of which the definitions speak until they follow `resolved`.
 use crate::judgement::Judgement;
 use crate::linear::Typed;
 use crate::reference::Whole;
@@ -20,8 +21,8 @@ pub struct FlatConcrete {
 }
 
 /// A resolved grammar. Judgements are numbered through `params`, `opers` and `concretes`, each
-/// alternative of an overload by itself; `typed` holds for each number what typing gave, where it was
-/// typed. `name` and `start` are those of the abstract module, None where there is none.
+/// alternative of an overload by itself; `typed` holds for each number what typing gave, where it
+/// was typed. `name` and `start` are those of the abstract module, None where there is none.
 #[derive(Drop)]
 pub struct Flat {
     pub name: Option<Name>,

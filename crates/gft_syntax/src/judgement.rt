@@ -56,13 +56,14 @@ pub enum Setting {
     Text(Text),
 }
 
-/// A judgement. Its names carry their places; the name `[C]` is `ListC` at the place of the bracket.
+/// A judgement. Its names carry their places; the name `[C]` is `ListC` at the place of the
+/// bracket.
 #[derive(Drop)]
 pub enum Judgement {
     /// `cat C (x : A) B`
     Cat(PlacedName, Items<Context>),
-    /// `cat [C]{n}`: C at its own place, the number, which is 0 where none is written, and the place
-    /// of the bracket. After names are resolved the reference is where C comes from.
+    /// `cat [C]{n}`: C at its own place, the number, which is 0 where none is written, and the
+    /// place of the bracket. After names are resolved the reference is where C comes from.
     ListCat(PlacedName, Reference, u128, Place),
     /// `fun f, g : A`
     Fun(Items<PlacedName>, Term),

@@ -1,4 +1,5 @@
-//! The forms of the source language with their places, and the types, values and terms of a resolved grammar.
+//! The forms of the source language with their places, and the types, values and terms of a
+//! resolved grammar.
 #![tactic(auto)]
 
 mod bind;

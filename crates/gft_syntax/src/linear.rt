@@ -1,4 +1,5 @@
-//! Terms of linearization after typing: overloads chosen, subtypes marked. In the form of which the definitions speak until they follow `typed`.
+//! Terms of linearization after typing: overloads chosen, subtypes marked. In the form of which the
+//! definitions speak until they follow `typed`.
 use crate::ctype::CType;
 use crate::pattern::Pattern;
 use crate::reference::Whole;
@@ -23,8 +24,8 @@ pub enum Branches<T> {
     Listed(CType, Items<T>),
 }
 
-/// A typed term. Places stand where evaluation may be stuck. `Oper`, `Lambda` and `App` stand only in
-/// what typing gives; a term without them is normal.
+/// A typed term. Places stand where evaluation may be stuck. `Oper`, `Lambda` and `App` stand only
+/// in what typing gives; a term without them is normal.
 #[derive(Drop)]
 pub enum LinTerm {
     /// A variable of a lambda, of `let` or of a pattern.
@@ -59,8 +60,8 @@ pub enum LinTerm {
     App(Boxed<LinTerm>, Boxed<LinTerm>),
 }
 
-/// What typing gives for a judgement: its term and the type of that term. For a judgement that gives
-/// a type this is that type, and the term is the empty record.
+/// What typing gives for a judgement: its term and the type of that term. For a judgement that
+/// gives a type this is that type, and the term is the empty record.
 #[derive(Drop)]
 pub struct Typed {
     pub term: LinTerm,

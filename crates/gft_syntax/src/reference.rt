@@ -24,8 +24,8 @@ pub struct Origin {
     pub judgement: u32,
 }
 
-/// A name in a term or a pattern: as it is written, with the origin that was found for it, or whole.
-/// After names are resolved, one that is still as written is a local variable.
+/// A name in a term or a pattern: as it is written, with the origin that was found for it, or
+/// whole. After names are resolved, one that is still as written is a local variable.
 #[derive(Drop)]
 pub enum Reference {
     Written(Name),

@@ -5,16 +5,17 @@ use crate::typed::Typed;
 use gft_core::{Name, Place, Shared};
 use sqlite_items::Items;
 
-/// What an interface declares for a constant that an instance gives: the instance, and the interface's
-/// judgement with each constant in it replaced by that of the instance, its places in the interface.
+/// What an interface declares for a constant that an instance gives: the instance, and the
+/// interface's judgement with each constant in it replaced by that of the instance, its places in
+/// the interface.
 #[derive(Drop)]
 pub struct Declaration {
     pub instance: Name,
     pub judgement: Shared<Judgement>,
 }
 
-/// One name of a judgement, with its place there. A judgement with several names before its `:` or `=`
-/// has an entry for each, which share it.
+/// One name of a judgement, with its place there. A judgement with several names before its `:` or
+/// `=` has an entry for each, which share it.
 #[derive(Drop)]
 pub struct FlatJudgement {
     pub whole: Whole,
@@ -31,8 +32,8 @@ pub struct FlatConcrete {
 }
 
 /// A resolved grammar. Judgements are numbered through `params`, `opers` and `concretes`, each
-/// alternative of an overload by itself; `typed` holds for each number what typing gave, where it was
-/// typed. `name` and `start` are those of the abstract module, None where there is none.
+/// alternative of an overload by itself; `typed` holds for each number what typing gave, where it
+/// was typed. `name` and `start` are those of the abstract module, None where there is none.
 #[derive(Drop)]
 pub struct Flat {
     pub name: Option<Name>,

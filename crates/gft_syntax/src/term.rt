@@ -36,8 +36,8 @@ pub struct Case<T> {
     pub body: T,
 }
 
-/// A term. Each form ends with the place of its first token, an opening parenthesis counted where the
-/// form begins with one; otherwise parentheses leave no trace.
+/// A term. Each form ends with the place of its first token, an opening parenthesis counted where
+/// the form begins with one; otherwise parentheses leave no trace.
 #[derive(Drop)]
 pub enum Term {
     /// `a | b`

@@ -78,8 +78,8 @@ pub enum Symbol {
     DoubleBackslash,
 }
 
-/// What a token is. A number and a text keep how they are written, digits or quotes included, since a
-/// refusal may name them: the value comes first, then the spelling.
+/// What a token is. A number and a text keep how they are written, digits or quotes included, since
+/// a refusal may name them: the value comes first, then the spelling.
 #[derive(Drop)]
 pub enum TokenForm {
     Identifier(Name),

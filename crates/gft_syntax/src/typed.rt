@@ -8,19 +8,19 @@ use crate::reference::Whole;
 use gft_core::{Name, NoMemory, Place, Shared, Token};
 use sqlite_items::Items;
 
-/// The branches of a table: the first whose pattern matches is taken, or one item for each value of the
-/// type in order.
+/// The branches of a table: the first whose pattern matches is taken, or one item for each value of
+/// the type in order.
 #[derive(Drop)]
 pub enum Branches<T> {
     Matched(Items<(Shared<Pattern>, T)>),
     Listed(CType, Items<T>),
 }
 
-/// A typed term. `Var(k)` is the variable that was bound k binders ago, the innermost 0. A pattern binds
-/// its variables in the order in which they first stand in it, an `Or` those of its left side; of several
-/// that are bound at once the last is the innermost. Places stand where evaluation may be stuck. `Oper`,
-/// `Lambda` and `App` stand only in what typing gives; a term without them is normal. Parts are shared,
-/// so a copy takes no memory.
+/// A typed term. `Var(k)` is the variable that was bound k binders ago, the innermost 0. A pattern
+/// binds its variables in the order in which they first stand in it, an `Or` those of its left
+/// side; of several that are bound at once the last is the innermost. Places stand where evaluation
+/// may be stuck. `Oper`, `Lambda` and `App` stand only in what typing gives; a term without them is
+/// normal. Parts are shared, so a copy takes no memory.
 #[derive(Drop)]
 pub enum LinTerm {
     Var(u32),
@@ -45,8 +45,8 @@ pub enum LinTerm {
     /// A selection directly from a table expression: the selector, then its branches.
     Case(Shared<LinTerm>, Shared<Branches<LinTerm>>, Place),
     Variants(Shared<Items<LinTerm>>),
-    /// Terms that are evaluated once each, from left to right, outside of what they bind, and the term
-    /// that sees them all, the last one innermost.
+    /// Terms that are evaluated once each, from left to right, outside of what they bind, and the
+    /// term that sees them all, the last one innermost.
     Let(Shared<Items<LinTerm>>, Shared<LinTerm>),
     /// A term of the first type where its supertype, the second, stands: cut to the labels of that.
     Cut(Shared<LinTerm>, CType, CType),
@@ -57,8 +57,8 @@ pub enum LinTerm {
     App(Shared<LinTerm>, Shared<Items<LinTerm>>),
 }
 
-/// What typing gives for a judgement: its term and the type of that term. For a judgement that gives a
-/// type this is that type, and the term is the empty record.
+/// What typing gives for a judgement: its term and the type of that term. For a judgement that
+/// gives a type this is that type, and the term is the empty record.
 #[derive(Drop)]
 pub struct Typed {
     pub term: LinTerm,

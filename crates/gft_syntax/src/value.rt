@@ -11,8 +11,8 @@ pub enum Param {
     Record(Items<(Name, Param)>),
 }
 
-/// A value. The labels of a record are in byte order, and the entries of a table in the order of its
-/// parameter values. In a string, `Arg(i, l)` is a closed part: string leaf l of argument i.
+/// A value. The labels of a record are in byte order, and the entries of a table in the order of
+/// its parameter values. In a string, `Arg(i, l)` is a closed part: string leaf l of argument i.
 #[derive(Drop)]
 pub enum Value {
     Str(Items<Sym>),

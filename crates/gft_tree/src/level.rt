@@ -6,14 +6,16 @@ use gft_core::{Name, NoMemory, Tree};
 use sqlite_items::Items;
 use std::alloc::Global;
 
-/// A place where an atom may come: nothing stands there yet, or a function with its arguments so far.
+/// A place where an atom may come: nothing stands there yet, or a function with its arguments so
+/// far.
 #[derive(Drop)]
 pub enum Level {
     Empty,
     Call(Name, Items<Tree>),
 }
 
-/// What stands before a place between two tokens: a level that goes on, or a tree that takes no argument.
+/// What stands before a place between two tokens: a level that goes on, or a tree that takes no
+/// argument.
 #[derive(Drop)]
 pub enum Gap {
     Begun(Level),

@@ -35,8 +35,8 @@ fn renumber_all(alloc: Global, seen: &mut Seen, trees: &[Tree]) -> Result<Items<
     Ok(renumbered)
 }
 
-/// The tree with its holes renamed by first occurrence, from 1: equal holes stay equal and different
-/// ones different. The stack that it takes grows with the tree's depth.
+/// The tree with its holes renamed by first occurrence, from 1: equal holes stay equal and
+/// different ones different. The stack that it takes grows with the tree's depth.
 pub fn number_holes(alloc: Global, tree: &Tree) -> Result<Tree, NoMemory>
     ensures { IfOk result (λ t. t ≡ numbered tree.now) }
 {

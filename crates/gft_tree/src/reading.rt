@@ -27,8 +27,8 @@ fn read(alloc: Global, text: &str) -> Result<Tree, TreeErr>
     }
 }
 
-/// The tree that the text spells, or the fault with the least offset, in bytes from 0. One walk over
-/// the text; the stack that it takes does not grow with it.
+/// The tree that the text spells, or the fault with the least offset, in bytes from 0. One walk
+/// over the text; the stack that it takes does not grow with it.
 pub fn read_tree(alloc: Global, text: &str) -> Result<Tree, TreeErr>
     requires { length text.now < 2 ^ 32 }
     ensures ok { IfOk result (IsRead (chars text.now)) }

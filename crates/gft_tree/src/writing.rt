@@ -98,8 +98,8 @@ fn push_arguments(alloc: Global, out: &mut String, trees: &[Tree]) -> Result<(),
     Ok(())
 }
 
-/// The text of a tree: one space between parts, and parentheses round arguments that are applications
-/// with arguments. The stack that it takes grows with the tree's depth.
+/// The text of a tree: one space between parts, and parentheses round arguments that are
+/// applications with arguments. The stack that it takes grows with the tree's depth.
 pub fn print(alloc: Global, tree: &Tree) -> Result<Text, NoMemory>
     ensures { IfOk result (λ text. text ≡ text_of tree.now) }
 {

@@ -53,8 +53,8 @@ pub fn cell_at(alloc: Global, of: &CType, number: u64) -> Result<Path, NoMemory>
     Ok(Path { steps })
 }
 
-/// The cells of a linearization type of at most 65,536 cells whose tables are over types of at most 4,096
-/// values: labels in byte order, tables in the order of their values.
+/// The cells of a linearization type of at most 65,536 cells whose tables are over types of at most
+/// 4,096 values: labels in byte order, tables in the order of their values.
 pub fn cells(alloc: Global, of: &CType) -> Result<Vec<Path>, NoMemory> {
     let mut paths = Vec::new(alloc);
     'each: for number in 0..cell_count(of) {

@@ -35,7 +35,8 @@ fn sum_of(constructors: &[(Whole, Items<CType>)]) -> u64 {
     sum
 }
 
-/// How many choices of one value of each type there are, or the greatest number. It takes no memory.
+/// How many choices of one value of each type there are, or the greatest number. It takes no
+/// memory.
 pub fn product_of(types: &[CType]) -> u64 {
     let mut product = 1u64;
     'each: for one in types {
@@ -44,7 +45,8 @@ pub fn product_of(types: &[CType]) -> u64 {
     product
 }
 
-/// How many choices of one value of each field there are, or the greatest number. It takes no memory.
+/// How many choices of one value of each field there are, or the greatest number. It takes no
+/// memory.
 #[cycle(count_of)]
 pub fn fields_product(fields: &[(Name, CType)]) -> u64 {
     let mut product = 1u64;
@@ -54,8 +56,8 @@ pub fn fields_product(fields: &[(Name, CType)]) -> u64 {
     product
 }
 
-/// Whether a table may be over the type: a parameter type, numbers, or a record type of such types. The
-/// arguments of constructors are finite. It takes no memory.
+/// Whether a table may be over the type: a parameter type, numbers, or a record type of such types.
+/// The arguments of constructors are finite. It takes no memory.
 #[cycle(is_finite)]
 pub fn is_finite(of: &CType) -> bool {
     match of {

@@ -1,5 +1,5 @@
-//! Concrete types and parameter values: comparison, counts, values and cells in order, texts, and what
-//! patterns cover.
+//! Concrete types and parameter values: comparison, counts, values and cells in order, texts, and
+//! what patterns cover.
 #![tactic(auto)]
 
 mod cell;

@@ -69,8 +69,8 @@ pub fn push_shifted(out: &mut Runs, runs: &[Run], by: u32) -> Result<(), NoMemor
     Ok(())
 }
 
-/// The numbers `i * count + k` with i of the first set and k of the second, whose numbers are below the
-/// count. Where the second set is full no number of the first is looked at by itself.
+/// The numbers `i * count + k` with i of the first set and k of the second, whose numbers are below
+/// the count. Where the second set is full no number of the first is looked at by itself.
 pub fn product(
     alloc: Global,
     firsts: &[Run],

@@ -24,8 +24,8 @@ pub fn field_in<'a, T>(label: &Name, fields: &'a [(Name, T)]) -> Option<&'a T> {
     None
 }
 
-/// Whether two types are equal. Parameter types are compared by name: in one grammar those of one name
-/// have the same constructors. It takes no memory.
+/// Whether two types are equal. Parameter types are compared by name: in one grammar those of one
+/// name have the same constructors. It takes no memory.
 #[cycle(same_type)]
 pub fn same_type(one: &CType, other: &CType) -> bool {
     match (one, other) {

@@ -3,9 +3,9 @@ use crate::same::{same_name, same_type};
 use gft_core::Name;
 use gft_syntax::CType;
 
-/// Whether the first type is a subtype of the second, where `up` holds, and the second of the first,
-/// where it does not. The types keep their sides, so that the recursion goes down each; in the
-/// parameter of a function the direction changes.
+/// Whether the first type is a subtype of the second, where `up` holds, and the second of the
+/// first, where it does not. The types keep their sides, so that the recursion goes down each; in
+/// the parameter of a function the direction changes.
 #[cycle(relates)]
 fn relates(one: &CType, other: &CType, up: bool) -> bool {
     match (one, other) {

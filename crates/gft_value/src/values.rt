@@ -32,7 +32,8 @@ pub fn value_at(alloc: Global, of: &CType, number: u64) -> Result<Option<Param>,
     }
 }
 
-/// The value of that number by the first constructor that has so many, the values before it taken off.
+/// The value of that number by the first constructor that has so many, the values before it taken
+/// off.
 #[cycle(value_at)]
 fn constructed_at(
     alloc: Global,
@@ -93,7 +94,8 @@ pub fn values_of(alloc: Global, of: &CType) -> Result<Vec<Param>, NoMemory> {
     Ok(values)
 }
 
-/// The number of a value in the order of its type, None for a value of another type. It takes no memory.
+/// The number of a value in the order of its type, None for a value of another type. It takes no
+/// memory.
 #[cycle(number_of)]
 pub fn number_of(value: &Param, of: &CType) -> Option<u64> {
     match (value, of) {

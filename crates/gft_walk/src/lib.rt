@@ -1,5 +1,5 @@
-//! One walk over the terms, patterns and judgements of a source, which rebuilds them. What it makes of
-//! names is left to a trait, so that each pass that replaces names is a small impl of it.
+//! One walk over the terms, patterns and judgements of a source, which rebuilds them. What it makes
+//! of names is left to a trait, so that each pass that replaces names is a small impl of it.
 #![tactic(auto)]
 
 mod heads;

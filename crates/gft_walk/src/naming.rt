@@ -75,8 +75,8 @@ pub trait Naming {
     /// The left side of an alternative has the variables from `start` on, and its right side comes.
     fn between(&mut self, start: usize);
 
-    /// The left side of an alternative has the variables from `start` to `middle`, the right side the
-    /// others.
+    /// The left side of an alternative has the variables from `start` to `middle`, the right side
+    /// the others.
     fn alternative(&mut self, start: usize, middle: usize) -> Result<(), NoMemory>;
 
     /// What is repeated has the variables from `start` on.

@@ -9,8 +9,8 @@ use crate::source::Failed;
 use std::io::{self, ErrorKind, Write};
 use std::marker::Model;
 
-/// A sink over a writer, as standard output or a file; contracts see how often it failed. It flushes
-/// after each write, so that what was written appears.
+/// A sink over a writer, as standard output or a file; contracts see how often it failed. It
+/// flushes after each write, so that what was written appears.
 #[derive(Drop)]
 pub struct WriteSink<W: Write> {
     writer: W,

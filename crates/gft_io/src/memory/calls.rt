@@ -34,7 +34,8 @@ impl Calls {
         }
     }
 
-    /// Counts a call that fails if its number says so or `refused` does, and answers whether it fails.
+    /// Counts a call that fails if its number says so or `refused` does, and answers whether it
+    /// fails.
     pub(super) fn call(&mut self, refused: bool) -> bool
         ensures fails { IsTrue result ↔ (Contains self.old.failing self.new.made ⊎ IsTrue refused) }
         ensures counts { self.new ≡ after_call self.old result }

@@ -16,6 +16,7 @@ pub(crate) struct Patterns {
 }
 
 impl Patterns {
+    /// No patterns and no fields.
     pub fn new(alloc: Global) -> Patterns {
         Patterns {
             alloc,

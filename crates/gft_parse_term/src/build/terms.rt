@@ -31,6 +31,7 @@ fn sort_of(word: Reserved) -> Option<Sort> {
 }
 
 impl Terms {
+    /// No terms and no locals.
     pub fn new(alloc: Global) -> Terms {
         Terms {
             alloc,

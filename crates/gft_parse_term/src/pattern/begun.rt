@@ -28,7 +28,8 @@ fn begins(form: Option<&TokenForm>) -> bool {
     }
 }
 
-/// Whether a pattern of the tightest level begins with the next token, where one may; a `-` there is refused.
+/// Whether a pattern of the tightest level begins with the next token, where one may; a `-` there
+/// is refused.
 pub(crate) fn may_begin(reader: &Reader<'_>) -> Result<bool, Halt> {
     if reader.is_symbol(0, Symbol::Minus) {
         return Err(Halt::Negated(reader.at));

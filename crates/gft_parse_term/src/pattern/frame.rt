@@ -4,7 +4,8 @@ use crate::level::PatternLevel;
 use crate::plan::{PatternStep, Span, Step};
 use crate::reader::Reader;
 
-/// A pattern that was read: its level, its first token, an opening parenthesis counted, and its height.
+/// A pattern that was read: its level, its first token, an opening parenthesis counted, and its
+/// height.
 #[derive(Clone, Copy)]
 pub(crate) struct Found {
     pub level: PatternLevel,
@@ -12,7 +13,8 @@ pub(crate) struct Found {
     pub height: u32,
 }
 
-/// Patterns within a form so far: its first token, how many they are, and the height of the highest.
+/// Patterns within a form so far: its first token, how many they are, and the height of the
+/// highest.
 #[derive(Clone, Copy)]
 pub(crate) struct Parts {
     pub start: u32,

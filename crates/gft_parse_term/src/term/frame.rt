@@ -4,7 +4,8 @@ use crate::level::Level;
 use crate::plan::{Infix, Span, Step, TermStep};
 use crate::reader::Reader;
 
-/// A term that was read: its level, its first token, an opening parenthesis counted, and its height.
+/// A term that was read: its level, its first token, an opening parenthesis counted, and its
+/// height.
 #[derive(Clone, Copy)]
 pub(crate) struct Found {
     pub level: Level,

@@ -46,8 +46,8 @@ fn check_tree(given: Given<'_>, cat: u32, tree: &Tree) -> Result<(), Stop> {
     }
 }
 
-/// What is linearized: a tree that has a type, by its functions, each after its arguments, unless it has
-/// literals or holes.
+/// What is linearized: a tree that has a type, by its functions, each after its arguments, unless
+/// it has literals or holes.
 #[derive(Clone, Copy)]
 enum Typed<'a> {
     Functions(&'a [u32]),
